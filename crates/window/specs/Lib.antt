@@ -1,0 +1,8 @@
+-- The header, the lent memory, the refusals and `new`: definitions (Memory, Refusals, New), then laws on them.
+pub mod Memory
+pub mod Refusals
+pub mod New
+pub mod MemoryLaws
+pub mod RefusalLaws
+pub mod NewLaws
+pub mod Examples

@@ -1,0 +1,53 @@
+-- Document 01, 'Refusal by operation': the number of each refusal, and when those that calls share apply.
+-- Definitions only; their laws are in RefusalLaws. Assumes nothing.
+use mathlib.Core.Bool.{Bool, cond, _&&_, _||_}
+use Prim.Native.Nat.{ℕ, _*_}
+use lib.Dec.{eqb, ltb, leb}
+use Rattle.window.specs.declared.AdaptiveReceiverPacketWindow.{AdaptiveReceiverPacketWindow}
+use Rattle.window.specs.declared.refusals.Refusal.{Refusal}
+use Rattle.window.specs.declared.refusals.Refusal.the-variants.{WindowSize, SparseCells, DemoteAt, Occupied, RangeCount, ShortMemory, Unsound, Budget}
+use Rattle.window.specs.declared.refusals.Verdict.{Verdict}
+use Rattle.window.specs.declared.refusals.Verdict.the-variants.{Pass, Refuse}
+use Rattle.window.specs.Memory.{capacity, pageCount, blockCount}
+
+-- document 01's number of each refusal
+abbrev pub refusalNumber : Refusal → ℕ
+refusalNumber WindowSize = 1
+refusalNumber SparseCells = 2
+refusalNumber DemoteAt = 3
+refusalNumber Occupied = 4
+refusalNumber RangeCount = 5
+refusalNumber ShortMemory = 6
+refusalNumber Unsound = 7
+refusalNumber Budget = 8
+
+-- of a verdict: 0 if it passes
+abbrev pub verdictNumber : Verdict → ℕ
+verdictNumber Pass = 0
+verdictNumber (Refuse why) = refusalNumber why
+
+-- x is not one of low..high
+abbrev pub outside : ℕ → ℕ → ℕ → Bool
+outside low high x = ltb x low || ltb high x
+
+-- "1 for window_size outside 1..65536, 2 for N outside 1..63, 3 for demote_at above N", in this order; 0 for none of them
+unfoldable pub limits : ℕ → ℕ → ℕ → ℕ
+limits size n demoteAt =
+    cond (outside 1 65536 size) 1
+    (cond (outside 1 63 n) 2
+    (cond (ltb n demoteAt) 3
+    0))
+
+-- the lists, by their lengths, are as long as window_size names them
+unfoldable pub longEnough : ℕ → ℕ → ℕ → ℕ → ℕ → Bool
+longEnough size sequences values pages blocks =
+    leb (capacity size) sequences && (leb (capacity size) values && (leb (3 * pageCount size) pages && leb (3 * blockCount size) blocks))
+
+-- "All others: first 6, a header outside 1 to 3's limits or a list shorter than named": this does not apply
+unfoldable pub fits : AdaptiveReceiverPacketWindow → ℕ → ℕ → ℕ → ℕ → Bool
+fits w sequences values pages blocks =
+    eqb (limits (w .«window_size») (w .n) (w .«demote_at»)) 0 && longEnough (w .«window_size») sequences values pages blocks
+
+-- the same for a call that takes "a return list of at least 384"
+unfoldable pub fitsWithList : AdaptiveReceiverPacketWindow → ℕ → ℕ → ℕ → ℕ → ℕ → Bool
+fitsWithList w sequences values pages blocks returned = leb 384 returned && fits w sequences values pages blocks

@@ -1,0 +1,147 @@
+//! The line program of document 01 over the unchanged source.
+//!
+//! Reads calls from standard input, writes one line of answer for each.
+//! `--large` lifts the limit of 4096 on window_size.
+
+/// The source's work counters stay out.
+macro_rules! count_work {
+    ($($counter:tt)*) => {};
+}
+
+mod line;
+mod reference;
+mod value;
+#[path = "../target/window.rs"]
+mod window;
+
+use line::Call;
+use reference::{call_and_drops, fresh, Answer, Window};
+use std::fmt::Write as _;
+use std::io::{self, Read, Write as _};
+use std::process::ExitCode;
+
+const LARGEST_WINDOW: u32 = 4096;
+
+struct Program {
+    largest_window: u32,
+    window: Option<Box<dyn Window>>,
+}
+
+impl Program {
+    /// The answer to one line, without its line feed.
+    fn answer(&mut self, line: &[u8]) -> String {
+        Call::read(line)
+            .and_then(|call| self.answer_call(call))
+            .unwrap_or_else(|| "?".to_string())
+    }
+
+    fn answer_call(&mut self, call: Call) -> Option<String> {
+        let (answer, dropped) = match call {
+            Call::New {
+                window_size,
+                n,
+                demote_at,
+            } => (self.renew(window_size, n, demote_at)?, Vec::new()),
+            _ => call_and_drops(self.window.as_deref_mut()?, call),
+        };
+        Some(written(call.letter(), &answer, self.counts(), &dropped))
+    }
+
+    /// What an accepted new drops of the window before it is not printed: new
+    /// has no return list.
+    fn renew(&mut self, window_size: u32, n: u32, demote_at: u32) -> Option<Answer> {
+        if window_size > self.largest_window {
+            return None;
+        }
+        Some(match fresh(window_size, n, demote_at) {
+            Ok(window) => {
+                self.window = Some(window);
+                Answer::Nothing
+            }
+            Err(refusal) => Answer::Refused(refusal),
+        })
+    }
+
+    /// Len, retired_held, promotions and demotions; 0 with no window.
+    fn counts(&self) -> [u64; 4] {
+        self.window.as_ref().map_or([0; 4], |window| {
+            let header = window.header();
+            [
+                u64::from(header.len),
+                u64::from(header.retired_held),
+                header.promotions,
+                header.demotions,
+            ]
+        })
+    }
+}
+
+fn written(letter: char, answer: &Answer, counts: [u64; 4], dropped: &[u32]) -> String {
+    let mut line = format!("{letter}\t{}", written_answer(answer));
+    for count in counts {
+        write!(line, "\t{count}").expect("a string takes all");
+    }
+    for value in dropped {
+        write!(line, "\t{value}").expect("a string takes all");
+    }
+    if let Answer::Pairs(pairs) = answer {
+        for (sequence, value) in pairs {
+            write!(line, "\t{sequence}:{value}").expect("a string takes all");
+        }
+    }
+    line
+}
+
+fn written_answer(answer: &Answer) -> String {
+    match answer {
+        Answer::Nothing => ".".to_string(),
+        Answer::Inserted => "+".to_string(),
+        Answer::Replaced(old) => format!("={old}"),
+        Answer::Absent => "-".to_string(),
+        Answer::Refused(refusal) => format!("!{refusal}"),
+        Answer::Number(number) => number.to_string(),
+        Answer::Released { released, units } => format!("{released}:{units}"),
+        Answer::Pairs(pairs) => pairs.len().to_string(),
+    }
+}
+
+/// The lines of the input. The last may lack its line feed; nothing after the
+/// last line feed is no line.
+fn lines(input: &[u8]) -> impl Iterator<Item = &[u8]> {
+    input
+        .split_inclusive(|&byte| byte == b'\n')
+        .map(|line| line.strip_suffix(b"\n").unwrap_or(line))
+}
+
+fn run(largest_window: u32) -> io::Result<()> {
+    let mut input = Vec::new();
+    io::stdin().lock().read_to_end(&mut input)?;
+    let mut output = io::BufWriter::new(io::stdout().lock());
+    let mut program = Program {
+        largest_window,
+        window: None,
+    };
+    for line in lines(&input) {
+        writeln!(output, "{}", program.answer(line))?;
+    }
+    output.flush()
+}
+
+fn main() -> ExitCode {
+    let arguments: Vec<String> = std::env::args().skip(1).collect();
+    let largest_window = match arguments.as_slice() {
+        [] => LARGEST_WINDOW,
+        [flag] if flag == "--large" => u32::MAX,
+        _ => {
+            eprintln!("usage: oracle [--large] < calls");
+            return ExitCode::from(2);
+        }
+    };
+    match run(largest_window) {
+        Ok(()) => ExitCode::SUCCESS,
+        Err(error) => {
+            eprintln!("oracle: {error}");
+            ExitCode::FAILURE
+        }
+    }
+}

@@ -1,0 +1,212 @@
+//! The calls of document 01, answered by the unchanged source.
+//!
+//! The source takes N as a const parameter; a trait object hides it, with one
+//! instance for each N from 1 to 63. What the source lacks or answers with a
+//! panic is worked out here: refusals 1, 2, 3 and 8, the units of
+//! release_retired, and stranger.
+
+use crate::line::Call;
+use crate::value::{take_dropped, Value};
+use crate::window::{
+    AdaptiveReceiverPacketWindow, PageWords, WindowHeader, MAX_RETIRED_RELEASED_PER_VISIT,
+};
+
+const DISTANCE_MASK: u32 = 0x7fff_ffff;
+const TOP_BIT: u32 = 1 << 31;
+
+/// What one call answers, beside the counts and the dropped values.
+#[derive(Debug, Clone, PartialEq, Eq)]
+pub enum Answer {
+    Nothing,
+    Inserted,
+    Replaced(u32),
+    Absent,
+    Refused(u32),
+    Number(u32),
+    Released { released: u32, units: u32 },
+    Pairs(Vec<(u32, u32)>),
+}
+
+impl Answer {
+    fn number_or_absent(number: Option<u32>) -> Self {
+        number.map_or(Self::Absent, Self::Number)
+    }
+}
+
+/// A window of the source, whatever its N.
+pub trait Window: Memory {
+    /// Make any call but new.
+    fn call(&mut self, call: Call) -> Answer;
+    fn header(&self) -> WindowHeader;
+}
+
+/// The words and cells of a window, for comparisons in one process. The line
+/// program prints none of them.
+#[allow(dead_code)]
+pub trait Memory {
+    fn page_count(&self) -> usize;
+    fn block_words(&self) -> &[u64];
+    fn page_words(&self, page: usize) -> PageWords;
+    /// The cells in use of one page by rising cell: cell, sequence, value.
+    fn page_cells(&self, page: usize) -> Vec<(usize, u32, u32)>;
+}
+
+type Source<const N: usize> = AdaptiveReceiverPacketWindow<Value, N>;
+
+impl<const N: usize> Window for Source<N> {
+    fn call(&mut self, call: Call) -> Answer {
+        match call {
+            Call::New { .. } => unreachable!("new makes a window, it is no call on one"),
+            Call::Insert { sequence, value } => insert(self, sequence, value),
+            Call::Get(sequence) => Answer::number_or_absent(self.get(sequence).map(Value::number)),
+            Call::Remove(sequence) => {
+                Answer::number_or_absent(self.remove(sequence).map(Value::into_number))
+            }
+            Call::SuccessorAfter(sequence) => {
+                Answer::number_or_absent(self.successor_after(sequence))
+            }
+            Call::FirstFrom(sequence) => Answer::number_or_absent(self.first_from(sequence)),
+            Call::Exchange { sequence, value } => exchange(self, sequence, value),
+            Call::RemoveRange { first, last } => self
+                .remove_range(first, last)
+                .map_or(Answer::Refused(5), |removed| Answer::Number(removed as u32)),
+            Call::Stranger { first, last } => stranger(self, first, last),
+            Call::ClearBounded(number) if above_visit(number) => Answer::Refused(8),
+            Call::ClearBounded(number) => {
+                Answer::Number(self.clear_bounded(number as usize) as u32)
+            }
+            Call::ReleaseRetired(number) if above_visit(number) => Answer::Refused(8),
+            Call::ReleaseRetired(number) => release_retired(self, number),
+            Call::Clear => {
+                self.clear();
+                Answer::Nothing
+            }
+            Call::Iter => Answer::Pairs(live_pairs(self)),
+        }
+    }
+
+    fn header(&self) -> WindowHeader {
+        Source::header(self)
+    }
+}
+
+impl<const N: usize> Memory for Source<N> {
+    fn page_count(&self) -> usize {
+        Source::page_count(self)
+    }
+
+    fn block_words(&self) -> &[u64] {
+        Source::block_words(self)
+    }
+
+    fn page_words(&self, page: usize) -> PageWords {
+        Source::page_words(self, page)
+    }
+
+    fn page_cells(&self, page: usize) -> Vec<(usize, u32, u32)> {
+        Source::page_cells(self, page)
+            .map(|(cell, sequence, value)| (cell, sequence, value.number()))
+            .collect()
+    }
+}
+
+fn live_pairs<const N: usize>(window: &Source<N>) -> Vec<(u32, u32)> {
+    let mut pairs = Vec::new();
+    for (sequence, value) in window.iter() {
+        pairs.push((sequence, value.number()));
+    }
+    pairs
+}
+
+fn above_visit(number: u32) -> bool {
+    number as usize > MAX_RETIRED_RELEASED_PER_VISIT
+}
+
+fn insert<const N: usize>(window: &mut Source<N>, sequence: u32, value: u32) -> Answer {
+    match window.insert(sequence, Value::new(value)) {
+        Ok(None) => Answer::Inserted,
+        Ok(Some(old)) => Answer::Replaced(old.into_number()),
+        Err(refused) => {
+            refused.into_number();
+            Answer::Refused(4)
+        }
+    }
+}
+
+/// `get_mut` and a write.
+fn exchange<const N: usize>(window: &mut Source<N>, sequence: u32, value: u32) -> Answer {
+    Answer::number_or_absent(
+        window
+            .get_mut(sequence)
+            .map(|held| std::mem::replace(held, Value::new(value)).into_number()),
+    )
+}
+
+/// The source does not report its units. It stops early only when nothing is
+/// held any more, and it inspects no page twice in one call, so they follow
+/// from what was held before and what is held after.
+fn release_retired<const N: usize>(window: &mut Source<N>, budget: u32) -> Answer {
+    let pages = window.retired_pages_held() as u32;
+    let released = window.release_retired(budget as usize) as u32;
+    let units = if window.has_retired() {
+        budget
+    } else {
+        released + pages
+    };
+    Answer::Released { released, units }
+}
+
+/// The first stranger by position from that of `first`, round the capacity:
+/// a live pair at a position of the range whose sequence is not one of the
+/// range, or whose top bit is set.
+fn stranger<const N: usize>(window: &Source<N>, first: u32, last: u32) -> Answer {
+    let reach = last.wrapping_sub(first) & DISTANCE_MASK;
+    if reach >= window.header().window_size {
+        return Answer::Refused(5);
+    }
+    let position_mask = window.capacity() as u32 - 1;
+    let offset = |sequence: u32| sequence.wrapping_sub(first) & position_mask;
+    let outside = |sequence: u32| {
+        sequence.wrapping_sub(first) & DISTANCE_MASK > reach || sequence & TOP_BIT != 0
+    };
+    let found = live_pairs(window)
+        .into_iter()
+        .map(|(sequence, _)| sequence)
+        .filter(|&sequence| offset(sequence) <= reach && outside(sequence))
+        .min_by_key(|&sequence| offset(sequence));
+    Answer::number_or_absent(found)
+}
+
+/// One arm for each N, since the source wants it when it is compiled.
+macro_rules! source_with {
+    ($n:expr, $window_size:expr, $demote_at:expr, $($each:literal)*) => {
+        match $n {
+            $($each => Box::new(Source::<$each>::new($window_size, $demote_at)) as Box<dyn Window>,)*
+            _ => unreachable!("refusal 2 keeps N within 1 to 63"),
+        }
+    };
+}
+
+/// A fresh window, or the number of the refusal.
+pub fn fresh(window_size: u32, n: u32, demote_at: u32) -> Result<Box<dyn Window>, u32> {
+    if !(1..=65_536).contains(&window_size) {
+        return Err(1);
+    }
+    if !(1..=63).contains(&n) {
+        return Err(2);
+    }
+    if demote_at > n {
+        return Err(3);
+    }
+    Ok(source_with!(n, window_size, demote_at as usize,
+        1 2 3 4 5 6 7 8 9 10 11 12 13 14 15 16 17 18 19 20 21
+        22 23 24 25 26 27 28 29 30 31 32 33 34 35 36 37 38 39 40 41 42
+        43 44 45 46 47 48 49 50 51 52 53 54 55 56 57 58 59 60 61 62 63))
+}
+
+/// Make a call and hand back its answer with what it dropped.
+pub fn call_and_drops(window: &mut dyn Window, call: Call) -> (Answer, Vec<u32>) {
+    take_dropped();
+    let answer = window.call(call);
+    (answer, take_dropped())
+}
