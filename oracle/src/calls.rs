@@ -17,6 +17,7 @@ const PAGE: u32 = 64;
 const BLOCK: u32 = 64 * PAGE;
 const LARGEST_WINDOW: u32 = 65_536;
 const LARGEST_LINE_WINDOW: u32 = 4096;
+const LARGEST_SMALL_WINDOW: u32 = 512;
 /// Sequences remembered in one list.
 const REMEMBERED: usize = 128;
 
@@ -62,6 +63,8 @@ impl Random {
 pub struct Options {
     /// Window sizes up to 65536.
     pub large: bool,
+    /// Window sizes up to 512.
+    pub small: bool,
     /// No malformed line, and an accepted `n` first.
     pub clean: bool,
 }
@@ -699,10 +702,10 @@ impl Generator {
     // New windows.
 
     fn accepted_new(&mut self) {
-        let limit = if self.options.large {
-            LARGEST_WINDOW
-        } else {
-            LARGEST_LINE_WINDOW
+        let limit = match self.options {
+            Options { large: true, .. } => LARGEST_WINDOW,
+            Options { small: true, .. } => LARGEST_SMALL_WINDOW,
+            _ => LARGEST_LINE_WINDOW,
         };
         self.window_size = self.size(limit);
         self.capacity = self.window_size.max(PAGE).next_power_of_two();

@@ -1,6 +1,6 @@
 //! Writes a seeded call file for the line program to standard output.
 //!
-//! `generate SEED CALLS [--large] [--pairs] [--clean]`
+//! `generate SEED CALLS [--large|--small] [--pairs] [--clean]`
 
 mod calls;
 mod line;
@@ -27,6 +27,7 @@ fn arguments() -> Option<Arguments> {
     for word in words {
         match word.as_str() {
             "--large" => options.large = true,
+            "--small" => options.small = true,
             "--pairs" => pairs = true,
             "--clean" => options.clean = true,
             _ => return None,
@@ -71,7 +72,7 @@ fn push_line(file: &mut Vec<u8>, item: &Item) {
 
 fn main() -> ExitCode {
     let Some(arguments) = arguments() else {
-        eprintln!("usage: generate SEED CALLS [--large] [--pairs] [--clean]");
+        eprintln!("usage: generate SEED CALLS [--large|--small] [--pairs] [--clean]");
         return ExitCode::from(2);
     };
     match io::stdout().lock().write_all(&file(&arguments)) {
