@@ -79,6 +79,9 @@ capacity-pages size =
     let q : 2 ^ e ≡ 2 ^ (e - 6) * 64 = ap (λ (k : ℕ). 2 ^ k) (sym (sub-add-cancel (p .1))) ∙ pow-add 2 (e - 6) 6 in
     omega (arith, p .3)
 
+pub page-count-ge : (size : ℕ) → 1 ≤ pageCount size
+page-count-ge size = omega (arith, capacity-ge size)
+
 pub page-count-le : (size : ℕ) → pageCount size ≤ 1024
 page-count-le size = omega (arith, capacity-le size)
 

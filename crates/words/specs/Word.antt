@@ -1,7 +1,7 @@
 -- What the bits of a word are, and what each function of src/ gives. Words are numbers, bit 0 is the lowest.
 -- Definitions only: they compute by sums, quotients and powers, never by a bitwise operation. Their laws are in BitLaws,
 -- ChangeLaws, CountLaws, SpanLaws and LowestLaws; what stands above this crate cites those and opens nothing here. Assumes nothing.
-use mathlib.Core.Bool.{Bool}
+use mathlib.Core.Bool.{Bool, cond}
 use Prim.Native.Nat.{ℕ, zero, suc, _+_, _-_, _*_, _/_, _%_, _^_}
 use lib.Dec.{eqb}
 use Rattle.words.specs.First.{firstFrom}
@@ -38,6 +38,14 @@ count w = countBelow 64 w
 -- the bits from f up to t, t not among them
 unfoldable pub span : ℕ → ℕ → ℕ
 span f t = 2 ^ t - 2 ^ f
+
+-- the word of 64 whose bit k is set just where P holds
+unfoldable pub wordBelow : ℕ → (ℕ → Bool) → ℕ
+wordBelow zero P = 0
+wordBelow (suc n) P = wordBelow n P + cond (P n) (2 ^ n) 0
+
+abbrev pub wordOf : (ℕ → Bool) → ℕ
+wordOf P = wordBelow 64 P
 
 -- the lowest set bit of w at or above k, of a word of 64; 64 if there is none
 unfoldable pub lowest : ℕ → ℕ → ℕ
