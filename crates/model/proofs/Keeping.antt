@@ -1,0 +1,316 @@
+-- Each call on positions keeps what demand 3 asks: the live positions stay the plain table's, answers agree, no value is lost, and
+-- what an emptying call emptied is returned or retired. Assumes nothing.
+use mathlib.Core.Path.{_≡_, refl, ap, _∙_, subst}
+use mathlib.Core.Bool.{Bool, true, false, cond}
+use mathlib.Core.Option.{Option, none, some, Option·some-injective}
+use mathlib.Core.List.{List, [], _++_}
+use Prim.Native.Nat.{ℕ, _+_, _-_, _*_, _/_, _≤_, _<_}
+use native.Mathlib.Omega.{arith}
+use lib.Dec.{leb, ltb, eqb}
+use lib.ListN.{length}
+use borrow.Author.Tests.{eqb-true, leb-true, le-leb}
+use Rattle.words.specs.Cases.{bool}
+use Rattle.window.specs.Memory.{capacity, pageCount, position}
+use Rattle.window.specs.MemoryLaws.{capacity-pages, position-lt}
+use Rattle.model.specs.Calls.{Call, insert, get, exchange, remove, successor-after, first-from, remove-range, clear, clear-bounded, release-retired, iter, stranger, check, Answer, done, found, released, refused}
+use Rattle.model.specs.Table.{Pair, Table, fresh, at, held, valueIf, putAt, putAnswer, exchangeAt, removeAt, rangeCount, covers, emptyRange, heldInRange, searchFrom, Outcome, outcome, untold, tableStep, unless as unlessInTable}
+use Rattle.model.specs.Roles.{roleOf, given, unlessRefused, ifFound}
+use Rattle.model.specs.Demand3.{times, lost}
+use Rattle.model.specs.Positions.{Positions, positions, drain, release, wipe, moved, sweepRange, Result, result, stays, unless, retiredCount, step, freshPositions}
+use Rattle.model.proofs.Sums.{at-other, sum-at, weigh, weight, equals, held-le, total-times, times-append, weight-fresh, weight-same, total-lost}
+use Rattle.model.proofs.Draining.{drain-keeps, drain-inside, drain-less}
+use Rattle.model.proofs.Releasing.{release-keeps, release-less, release-halves, release-cursor}
+use Rattle.model.proofs.Sweeping.{wipe-in, moved-keeps, range-live, range-apart, range-keeps}
+
+-- ---- one position: what is accepted and was there, is there after or handed back
+
+put-balance : (s v x : ℕ) (o : Option Pair)
+    → times x (unlessRefused v (putAnswer s o)) + weigh (equals x) o ≡ weigh (equals x) (putAt s v o) + times x (given (putAnswer s o))
+put-balance s v x none = omega arith
+put-balance s v x (some e) = bool (eqb (e .sequence) s) (λ i. rw i (omega arith)) (λ i. rw i (omega arith))
+
+exchange-balance : (s v x : ℕ) (o : Option Pair)
+    → times x (ifFound v (valueIf s o)) + weigh (equals x) o ≡ weigh (equals x) (exchangeAt s v o) + times x (given (valueIf s o))
+exchange-balance s v x none = omega arith
+exchange-balance s v x (some e) = bool (eqb (e .sequence) s) (λ i. rw i (omega arith)) (λ i. rw i (omega arith))
+
+remove-balance : (s x : ℕ) (o : Option Pair) → weigh (equals x) o ≡ weigh (equals x) (removeAt s o) + times x (given (valueIf s o))
+remove-balance s x none = omega arith
+remove-balance s x (some e) = bool (eqb (e .sequence) s) (λ i. rw i (omega arith)) (λ i. rw i (omega arith))
+
+exchange-held : (s v : ℕ) (o : Option Pair) → held (exchangeAt s v o) ≤ held o
+exchange-held s v none = omega arith
+exchange-held s v (some e) = bool (eqb (e .sequence) s) (λ i. rw i (omega arith)) (λ i. rw i (omega arith))
+
+remove-held : (s : ℕ) (o : Option Pair) → held (removeAt s o) ≤ held o
+remove-held s none = omega arith
+remove-held s (some e) = bool (eqb (e .sequence) s) (λ i. rw i (omega arith)) (λ i. rw i (omega arith))
+
+at-apart : (t u : Table) (p : ℕ) (o : Option Pair) → ((q : ℕ) → held (t q) + held (u q) ≤ 1) → held o + held (u p) ≤ 1
+    → (q : ℕ) → held (at t p o q) + held (u q) ≤ 1
+at-apart t u p o h k q = bool (eqb q p) (λ i. rw i (rw (eqb-true q p i) k)) (λ i. rw i (h q))
+
+count-some : (a b : ℕ) → 0 < rangeCount a b
+unfolding rangeCount
+count-some a b = omega arith
+
+cond-none : (b : Bool) (o : Option Pair) → o ≡ none → cond b none o ≡ none
+cond-none true o e = refl
+cond-none false o e = e
+
+lost-same : (n v : ℕ) (t : Table) → times v (lost n t t) ≡ 0
+lost-same n v t = omega (arith, total-lost n (equals v) t (λ (q : ℕ). false), total-times v (lost n t t))
+
+module _ (size : ℕ) where
+  abbrev cap : ℕ
+  cap = capacity size
+
+  abbrev pages : ℕ
+  pages = pageCount size
+
+  -- What holds of positions after each call: nothing is live beyond the capacity, no position holds both a live and a retired pair,
+  -- and the cursor is at most the number of pages.
+  pub record Fit (w : Positions) : Type 0 where
+    pub beyond : (q : ℕ) → cap ≤ q → w .live q ≡ none
+    pub apart : (q : ℕ) → held (w .live q) + held (w .retired q) ≤ 1
+    pub cursor : w .cursor ≤ pages
+
+  pub fresh-fit : Fit freshPositions
+  fresh-fit = record { beyond = λ q l. refl; apart = λ q. omega arith; cursor = omega arith }
+
+  -- the accepted value and what was live and retired, are live, retired, handed back or returned
+  abbrev pub Balance : Positions → Call → Result → Answer → Type 0
+  Balance w c r a = (v : ℕ)
+      → times v (roleOf c .accepted a) + weight cap (equals v) (w .live) + weight cap (equals v) (w .retired)
+      ≡ weight cap (equals v) (r .after .live) + weight cap (equals v) (r .after .retired) + times v (roleOf c .handedBack a) + times v (r .returned)
+
+  -- What demand 3 asks of one call c at positions w, where it gives r, and the plain table over the live positions gives o.
+  pub record Kept (w : Positions) (c : Call) (r : Result) (o : Outcome) : Type 0 where
+    pub fit : Fit (r .after)
+    pub same : r .after .live ≡ o .after
+    pub answer : roleOf c .shared ≡ true → r .answer ≡ o .answer
+    pub whole : (a : Answer) → (roleOf c .shared ≡ true → r .answer ≡ some a) → Balance w c r a
+    pub emptied : (v : ℕ)
+        → weight cap (equals v) (r .after .retired) + times v (r .returned)
+        ≡ weight cap (equals v) (w .retired) + times v (cond (roleOf c .emptying) (lost cap (w .live) (o .after)) [])
+
+  -- nothing is accepted, nothing handed back
+  abbrev pub Quiet : Call → Answer → Type 0
+  Quiet c a = (roleOf c .accepted a ≡ []) × (roleOf c .handedBack a ≡ [])
+
+  module _ (w : Positions) (f : Fit w) where
+    -- ---- kinds of call
+
+    -- a call that changes nothing
+    kept-still : (c : Call) (x y : Option Answer) → (roleOf c .shared ≡ true → x ≡ y) → ((a : Answer) → (roleOf c .shared ≡ true → x ≡ some a) → Quiet c a)
+        → Kept w c (stays w x) (record { after = w .live; answer = y })
+    kept-still c x y e n = record {
+      fit = f;
+      same = refl;
+      answer = e;
+      whole = λ a h v. omega (arith, ap (times v) (n a h .0), ap (times v) (n a h .1));
+      emptied = λ v. bool (roleOf c .emptying) (λ i. rw i (omega (arith, lost-same cap v (w .live)))) (λ i. rw i (omega arith));
+    }
+
+    -- a call that refuses k unless the test holds
+    kept-unless : (c : Call) (k : ℕ) (taken : Bool) (r : Result) (o : Outcome) → ((a : Answer) → (roleOf c .shared ≡ true → some (refused k) ≡ some a) → Quiet c a)
+        → (taken ≡ true → Kept w c r o) → Kept w c (unless k taken w r) (unlessInTable k taken (w .live) o)
+    kept-unless c k true r o n h = h refl
+    kept-unless c k false r o n h = kept-still c (some (refused k)) (some (refused k)) (λ s. refl) n
+
+    -- a call that changes one live position, and may return retired values
+    kept-at : (c : Call) (p : ℕ) (o : Option Pair) (u : Table) (l : List ℕ) (b : Answer) → roleOf c .shared ≡ true → roleOf c .emptying ≡ false → p < cap
+        → held o + held (u p) ≤ 1 → ((q : ℕ) → held (u q) ≤ held (w .retired q))
+        → ((v : ℕ) → times v (roleOf c .accepted b) + weigh (equals v) (w .live p) ≡ weigh (equals v) o + times v (roleOf c .handedBack b))
+        → ((v : ℕ) → weight cap (equals v) u + times v l ≡ weight cap (equals v) (w .retired))
+        → Kept w c (result (positions (at (w .live) p o) u (w .cursor)) (some b) l) (outcome (at (w .live) p o) b)
+    kept-at c p o u l b shared emptying p-lt one less here there =
+        let r : Result = result (positions (at (w .live) p o) u (w .cursor)) (some b) l in
+        record {
+          fit = record {
+            beyond = λ q k. at-other (w .live) p o q (λ d. omega arith) ∙ f .beyond q k;
+            apart = at-apart (w .live) u p o (λ q. omega (arith, f .apart q, less q)) one;
+            cursor = f .cursor;
+          };
+          same = refl;
+          answer = λ s. refl;
+          whole = λ a h. subst (Balance w c r) (Option·some-injective b a (h shared)) (λ v. omega (arith, here v, there v, sum-at cap (weigh (equals v)) (w .live) p o p-lt));
+          emptied = λ v. rw emptying (omega (arith, there v));
+        }
+
+    -- a call that empties the positions where b holds
+    kept-emptying : (c : Call) (b : ℕ → Bool) (t u : Table) (n : ℕ) (l : List ℕ) (x y : Option Answer) → ((a : Answer) → Quiet c a) → roleOf c .emptying ≡ true
+        → (roleOf c .shared ≡ true → x ≡ y) → ((q : ℕ) → t q ≡ cond (b q) none (w .live q)) → ((q : ℕ) → held (t q) + held (u q) ≤ 1) → n ≤ pages
+        → ((v : ℕ) → weight cap (equals v) t + weight cap (equals v) u + times v l ≡ weight cap (equals v) (w .live) + weight cap (equals v) (w .retired))
+        → Kept w c (result (positions t u n) x l) (record { after = λ (q : ℕ). cond (b q) none (w .live q); answer = y })
+    kept-emptying c b t u n l x y quiet emptying e same apart cursor whole = record {
+      fit = record { beyond = λ q k. same q ∙ cond-none (b q) (w .live q) (f .beyond q k); apart = apart; cursor = cursor };
+      same = λ d q. same q d;
+      answer = e;
+      whole = λ a h v. omega (arith, whole v, ap (times v) (quiet a .0), ap (times v) (quiet a .1));
+      emptied = λ v.
+          let z : Table = λ (q : ℕ). cond (b q) none (w .live q) in
+          rw emptying (omega (
+            arith,
+            whole v,
+            total-lost cap (equals v) (w .live) b,
+            total-times v (lost cap (w .live) z),
+            weight-same cap (equals v) t z (λ q k. same q),
+          ));
+    }
+
+    -- ---- the parts, counted
+
+    drain-times : (n p k v : ℕ) (t : Table) → p + n ≤ cap → weight cap (equals v) (drain n p k t .left) + times v (drain n p k t .out) ≡ weight cap (equals v) t
+    drain-times n p k v t h = omega (arith, drain-keeps cap (equals v) n p k t h, total-times v (drain n p k t .out))
+
+    release-times : (b v : ℕ) (t : Table) (c : ℕ) → c ≤ pages
+        → weight cap (equals v) (release pages b b t c .retired) + times v (release pages b b t c .out) ≡ weight cap (equals v) t
+    release-times b v t c l =
+        let r = release pages b b t c in
+        let z = release-keeps pages (equals v) b b t c l in
+        omega (arith, rw (← capacity-pages size) at z, total-times v (r .out))
+
+    -- all that was live is retired
+    all-moved : (v : ℕ) → weight cap (equals v) (moved 0 cap (w .live) (w .retired)) ≡ weight cap (equals v) (w .live) + weight cap (equals v) (w .retired)
+    all-moved v = omega (
+      arith,
+      moved-keeps cap (equals v) 0 cap (w .live) (w .retired) (f .apart),
+      weight-fresh cap (equals v),
+      weight-same cap (equals v) (wipe 0 cap (w .live)) fresh (λ q k. wipe-in 0 cap (w .live) q (omega arith) k),
+    )
+
+    -- ---- the calls
+
+    kept-insert : (s v : ℕ) (l : Bool) → Kept w (insert s v l) (step size w (insert s v l)) (tableStep size (w .live) (insert s v l))
+    unfolding step tableStep
+    kept-insert s v l =
+        let p = position size s in
+        let a = 64 * (p / 64) in
+        let d = drain 64 a 64 (w .retired) in
+        let o = putAt s v (w .live p) in
+        let b = putAnswer s (w .live p) in
+        let p-lt : p < cap = position-lt size s in
+        let fits : a + 64 ≤ cap = omega (arith, capacity-pages size) in
+        kept-unless (insert s v l) 6 l (result (positions (at (w .live) p o) (d .left) (w .cursor)) (some b) (d .out)) (outcome (at (w .live) p o) b)
+        (λ x h. subst (Quiet (insert s v l)) (Option·some-injective (refused 6) x (h refl)) (refl, refl))
+        (λ i. kept-at (insert s v l) p o (d .left) (d .out) b refl refl p-lt
+        (omega (arith, held-le o, ap held (drain-inside 64 a 64 (w .retired) p (omega arith) (omega arith) (omega arith))))
+        (drain-less 64 a 64 (w .retired)) (λ x. put-balance s v x (w .live p)) (λ x. drain-times 64 a 64 x (w .retired) fits))
+
+    kept-exchange : (s v : ℕ) → Kept w (exchange s v) (step size w (exchange s v)) (tableStep size (w .live) (exchange s v))
+    unfolding step tableStep
+    kept-exchange s v =
+        let p = position size s in
+        kept-at (exchange s v) p (exchangeAt s v (w .live p)) (w .retired) [] (valueIf s (w .live p)) refl refl (position-lt size s)
+        (omega (arith, f .apart p, exchange-held s v (w .live p))) (λ q. omega arith) (λ x. exchange-balance s v x (w .live p)) (λ x. omega arith)
+
+    kept-remove : (s : ℕ) → Kept w (remove s) (step size w (remove s)) (tableStep size (w .live) (remove s))
+    unfolding step tableStep
+    kept-remove s =
+        let p = position size s in
+        kept-at (remove s) p (removeAt s (w .live p)) (w .retired) [] (valueIf s (w .live p)) refl refl (position-lt size s)
+        (omega (arith, f .apart p, remove-held s (w .live p))) (λ q. omega arith) (λ x. omega (arith, remove-balance s x (w .live p))) (λ x. omega arith)
+
+    kept-clear : (l : Bool) → Kept w (clear l) (step size w (clear l)) (tableStep size (w .live) (clear l))
+    unfolding step tableStep
+    kept-clear l =
+        let u = moved 0 cap (w .live) (w .retired) in
+        let r = release pages 256 256 u (w .cursor) in
+        kept-unless (clear l) 6 l (result (positions fresh (r .retired) (r .cursor)) (some done) (r .out)) (outcome fresh done) (λ a h. (refl, refl))
+        (λ i. kept-emptying (clear l) (λ (q : ℕ). true) fresh (r .retired) (r .cursor) (r .out) (some done) (some done) (λ a. (refl, refl)) refl (λ s. refl)
+        (λ q. refl) (λ q. omega (arith, held-le (r .retired q))) (release-cursor pages 256 256 u (w .cursor) (f .cursor))
+        (λ v. omega (arith, release-times 256 v u (w .cursor) (f .cursor), all-moved v, weight-fresh cap (equals v))))
+
+    kept-bounded : (n : ℕ) (l : Bool) → Kept w (clear-bounded n l) (step size w (clear-bounded n l)) (tableStep size (w .live) (clear-bounded n l))
+    unfolding step tableStep
+    kept-bounded n l =
+        let u = moved 0 cap (w .live) (w .retired) in
+        let d = drain cap 0 n u in
+        let r : Result = result (positions fresh (d .left) (w .cursor)) (some (found (length (d .out)))) (d .out) in
+        kept-unless (clear-bounded n l) 6 l (unless 8 (leb n 256) w r) (unlessInTable 8 (leb n 256) (w .live) (untold fresh)) (λ a h. (refl, refl))
+        (λ i. kept-unless (clear-bounded n l) 8 (leb n 256) r (untold fresh) (λ a h. (refl, refl))
+        (λ j. kept-emptying (clear-bounded n l) (λ (q : ℕ). true) fresh (d .left) (w .cursor) (d .out) (some (found (length (d .out)))) none (λ a. (refl, refl)) refl
+        (λ s. cc) (λ q. refl) (λ q. omega (arith, held-le (d .left q))) (f .cursor)
+        (λ v. omega (arith, drain-times cap 0 n v u (omega arith), all-moved v, weight-fresh cap (equals v)))))
+
+    kept-range : size ≤ cap → (a b : ℕ) (l : Bool) → Kept w (remove-range a b l) (step size w (remove-range a b l)) (tableStep size (w .live) (remove-range a b l))
+    unfolding step tableStep
+    kept-range small a b l =
+        let n = rangeCount a b in
+        let p = position size a in
+        let y = sweepRange cap p n (w .live) (w .retired) in
+        let c = cond (ltb 0 (retiredCount cap w)) (w .cursor) (p / 64) in
+        let r = release pages 256 256 (y .retired) c in
+        let x = some (found (heldInRange cap p n (w .live))) in
+        let res : Result = result (positions (y .live) (r .retired) (r .cursor)) x (y .out ++ r .out) in
+        let o : Outcome = outcome (emptyRange cap p n (w .live)) (found (heldInRange cap p n (w .live))) in
+        let p-lt : p < cap = position-lt size a in
+        let c-le : c ≤ pages = bool (ltb 0 (retiredCount cap w)) (λ d. rw d (f .cursor)) (λ d. rw d (omega (arith, capacity-pages size))) in
+        kept-unless (remove-range a b l) 6 l (unless 5 (leb n size) w res) (unlessInTable 5 (leb n size) (w .live) o) (λ a h. (refl, refl))
+        (λ i. kept-unless (remove-range a b l) 5 (leb n size) res o (λ a h. (refl, refl))
+        (λ j.
+        let n-le : n ≤ cap = omega (arith, leb-true n size j) in
+        let n-some : 0 < n = count-some a b in
+        kept-emptying (remove-range a b l) (covers cap p n) (y .live) (r .retired) (r .cursor) (y .out ++ r .out) x x (λ a. (refl, refl)) refl
+        (λ s. refl) (range-live cap p n (w .live) (w .retired) p-lt n-some n-le (f .beyond))
+        (λ q. omega (arith, range-apart cap p n (w .live) (w .retired) p-lt n-some n-le (f .apart) q, release-less pages 256 256 (y .retired) c q))
+        (release-cursor pages 256 256 (y .retired) c c-le)
+        (λ v. omega (
+          arith,
+          range-keeps cap p n (w .live) (w .retired) p-lt n-some n-le (equals v) (f .apart),
+          total-times v (y .out),
+          times-append v (y .out) (r .out),
+          release-times 256 v (y .retired) c c-le,
+        ))))
+
+    kept-release : (b : ℕ) (l : Bool) → Kept w (release-retired b l) (step size w (release-retired b l)) (tableStep size (w .live) (release-retired b l))
+    unfolding step tableStep
+    kept-release b l =
+        let r = release pages b b (w .retired) (w .cursor) in
+        let res : Result = result (positions (w .live) (r .retired) (r .cursor)) (some (released (length (r .out)) (r .units))) (r .out) in
+        kept-unless (release-retired b l) 6 l (unless 8 (leb b 256) w res) (unlessInTable 8 (leb b 256) (w .live) (untold (w .live))) (λ a h. (refl, refl))
+        (λ i. kept-unless (release-retired b l) 8 (leb b 256) res (untold (w .live)) (λ a h. (refl, refl))
+        (λ j. record {
+          fit = record {
+            beyond = f .beyond;
+            apart = λ q. omega (arith, f .apart q, release-less pages b b (w .retired) (w .cursor) q);
+            cursor = release-cursor pages b b (w .retired) (w .cursor) (f .cursor);
+          };
+          same = refl;
+          answer = λ s. cc;
+          whole = λ a h v. omega (arith, release-times b v (w .retired) (w .cursor) (f .cursor));
+          emptied = λ v. omega (arith, release-times b v (w .retired) (w .cursor) (f .cursor));
+        }))
+
+    kept-stranger : (a b : ℕ) → Kept w (stranger a b) (step size w (stranger a b)) (tableStep size (w .live) (stranger a b))
+    unfolding step tableStep
+    kept-stranger a b =
+        kept-unless (stranger a b) 5 (leb (rangeCount a b) size) (stays w none) (untold (w .live)) (λ a h. (refl, refl))
+        (λ i. kept-still (stranger a b) none none (λ s. refl) (λ a h. (refl, refl)))
+
+    -- every call at fit positions keeps what demand 3 asks
+    pub call-keeps : size ≤ cap → (c : Call) → Kept w c (step size w c) (tableStep size (w .live) c)
+    unfolding step tableStep
+    call-keeps small (insert s v l) = kept-insert s v l
+    call-keeps small (get s) = kept-still (get s) (some (valueIf s (w .live (position size s)))) (some (valueIf s (w .live (position size s)))) (λ s. refl) (λ a h. (refl, refl))
+    call-keeps small (exchange s v) = kept-exchange s v
+    call-keeps small (remove s) = kept-remove s
+    call-keeps small (successor-after s) =
+        let x = some (searchFrom cap (w .live) (position size (s + 1))) in
+        kept-still (successor-after s) x x (λ s. refl) (λ a h. (refl, refl))
+    call-keeps small (first-from s) = let x = some (searchFrom cap (w .live) (position size s)) in kept-still (first-from s) x x (λ s. refl) (λ a h. (refl, refl))
+    call-keeps small (remove-range a b l) = kept-range small a b l
+    call-keeps small (clear l) = kept-clear l
+    call-keeps small (clear-bounded n l) = kept-bounded n l
+    call-keeps small (release-retired b l) = kept-release b l
+    call-keeps small (iter cell) = kept-still (iter cell) none none (λ s. refl) (λ a h. (refl, refl))
+    call-keeps small (stranger a b) = kept-stranger a b
+    call-keeps small check = kept-still check none none (λ s. refl) (λ a h. (refl, refl))
+
+    -- a call of release_retired takes out half its budget at least, or all
+    pub call-halves : (b : ℕ) → b ≤ 256 → retiredCount cap (step size w (release-retired b true) .after) ≤ retiredCount cap w - b / 2
+    unfolding step
+    call-halves b h =
+        let z = release-halves pages b b (w .retired) (w .cursor) (f .cursor) (omega arith) in
+        rw (le-leb b 256 h) (rw (← capacity-pages size) at z)

@@ -1,0 +1,11 @@
+-- That demand 3 holds over positions, and of any head that refines them: sums, the parts of a call, each call, whole histories, heads.
+pub mod Sums
+pub mod Draining
+pub mod Releasing
+pub mod Sweeping
+pub mod Keeping
+pub mod Histories
+pub mod Carrying
+pub mod OverPositions
+pub mod Beginning
+pub mod Examples

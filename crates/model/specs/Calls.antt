@@ -1,0 +1,38 @@
+-- The calls of document 01 and what they answer. Definitions only. Assumes nothing.
+use mathlib.Core.Bool.{Bool}
+use Prim.Native.Nat.{ℕ}
+
+-- The calls that a list of calls may hold, with their arguments. Of a return list only this is told, in `listed`: whether it has 384 places.
+pub data Call : Type 0 where
+  insert : (sequence value : ℕ) (listed : Bool) → Call
+  get : (sequence : ℕ) → Call
+  exchange : (sequence value : ℕ) → Call
+  remove : (sequence : ℕ) → Call
+  successor-after : (sequence : ℕ) → Call
+  first-from : (sequence : ℕ) → Call
+  remove-range : (first last : ℕ) (listed : Bool) → Call
+  clear : (listed : Bool) → Call
+  clear-bounded : (number : ℕ) (listed : Bool) → Call
+  release-retired : (budget : ℕ) (listed : Bool) → Call
+  iter : (cell : ℕ) → Call
+  stranger : (first last : ℕ) → Call
+  check : Call
+
+-- What a call answers, beside its return list.
+pub data Answer : Type 0 where
+  -- nothing to tell: clear; check of a sound state; iter from where no pair is left
+  done : Answer
+  -- insert put a new pair
+  new : Answer
+  -- insert put the pair in place of this old value
+  replaced : (value : ℕ) → Answer
+  -- no such sequence, no live pair, no stranger
+  absent : Answer
+  -- a value (get, exchange, remove), a sequence (successor_after, first_from), a number (remove_range, clear_bounded)
+  found : (number : ℕ) → Answer
+  -- a pair and the cell after it (iter); a pair and 0 (stranger)
+  pair : (sequence value next : ℕ) → Answer
+  -- values released and units used (release_retired)
+  released : (values units : ℕ) → Answer
+  -- document 01's number of the refusal
+  refused : (number : ℕ) → Answer

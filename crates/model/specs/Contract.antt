@@ -1,0 +1,108 @@
+-- The contract of every exported call, as one record: what the call finds and what it leaves. A function's `ensures` cites it at
+-- its own call. Document 01, 'Refusal by operation' and 'What a contract here must say'. Definitions only. Assumes nothing.
+use mathlib.Core.Path.{_≡_}
+use mathlib.Core.Bool.{Bool, cond}
+use mathlib.Core.List.{List}
+use Prim.Native.Nat.{ℕ, _*_}
+use lib.Dec.{leb}
+use lib.ListN.{length, take, drop}
+use Rattle.window.specs.declared.AdaptiveReceiverPacketWindow.{AdaptiveReceiverPacketWindow}
+use Rattle.window.specs.Memory.{Memory, capacity, pageCount, blockCount}
+use Rattle.window.specs.Refusals.{fits}
+use Rattle.model.specs.Calls.{Call, insert, get, exchange, remove, successor-after, first-from, remove-range, clear, clear-bounded, release-retired, iter, stranger, check, Answer, refused}
+use Rattle.model.specs.Table.{rangeCount}
+use Rattle.model.specs.Window.{Window, decode}
+use Rattle.model.specs.Steps.{windowStep}
+use Rattle.model.specs.Sound.{Sound}
+
+-- header and lent memory
+pub record State : Type 0 where
+  pub header : AdaptiveReceiverPacketWindow
+  pub memory : Memory
+
+abbrev pub windowOf : State → Window
+windowOf u = decode (u .header) (u .memory)
+
+-- what a call returns and leaves: its answer, how many values it returned, header and memory, and the return list, which is the
+-- empty list for a call that takes none
+pub record Left : Type 0 where
+  pub answer : Answer
+  pub count : ℕ
+  pub state : State
+  pub list : List ℕ
+
+-- ---- refusals that are decided before the window is looked at; 0 for none
+
+abbrev pub first : ℕ → Bool → ℕ → ℕ
+first k taken rest = cond taken rest k
+
+-- a return list of fewer than 384 places is refused 6; "remove_range, stranger: then 5 for a count above window_size";
+-- "release_retired, clear_bounded: then 8 for a number above 256". (Insert's 4 is decided by the window.)
+abbrev pub argumentRefusal : ℕ → Call → ℕ
+argumentRefusal size (insert s v listed) = first 6 listed 0
+argumentRefusal size (get s) = 0
+argumentRefusal size (exchange s v) = 0
+argumentRefusal size (remove s) = 0
+argumentRefusal size (successor-after s) = 0
+argumentRefusal size (first-from s) = 0
+argumentRefusal size (remove-range a b listed) = first 6 listed (first 5 (leb (rangeCount a b) size) 0)
+argumentRefusal size (clear listed) = first 6 listed 0
+argumentRefusal size (clear-bounded n listed) = first 6 listed (first 8 (leb n 256) 0)
+argumentRefusal size (release-retired b listed) = first 6 listed (first 8 (leb b 256) 0)
+argumentRefusal size (iter cell) = 0
+argumentRefusal size (stranger a b) = first 5 (leb (rangeCount a b) size) 0
+argumentRefusal size check = 0
+
+-- "All others: first 6, a header outside 1 to 3's limits or a list shorter than named."
+abbrev pub lengthsFit : State → Bool
+lengthsFit u = fits (u .header) (length (u .memory .sequences)) (length (u .memory .values)) (length (u .memory .pages)) (length (u .memory .blocks))
+
+abbrev pub refusal : State → Call → ℕ
+refusal u c = first 6 (lengthsFit u) (argumentRefusal (u .header .«window_size») c)
+
+-- ---- the contract
+
+-- "memory past the named lengths"
+pub record SamePast (size : ℕ) (m m′ : Memory) : Type 0 where
+  pub sequences : drop (capacity size) (m′ .sequences) ≡ drop (capacity size) (m .sequences)
+  pub values : drop (capacity size) (m′ .values) ≡ drop (capacity size) (m .values)
+  pub pages : drop (3 * pageCount size) (m′ .pages) ≡ drop (3 * pageCount size) (m .pages)
+  pub blocks : drop (3 * blockCount size) (m′ .blocks) ≡ drop (3 * blockCount size) (m .blocks)
+
+pub record SameLengths (m m′ : Memory) : Type 0 where
+  pub sequences : length (m′ .sequences) ≡ length (m .sequences)
+  pub values : length (m′ .values) ≡ length (m .values)
+  pub pages : length (m′ .pages) ≡ length (m .pages)
+  pub blocks : length (m′ .blocks) ≡ length (m .blocks)
+
+-- nothing is altered, and nothing returned
+pub record Unaltered (u : State) (l : List ℕ) (r : Left) : Type 0 where
+  pub state : r .state ≡ u
+  pub list : r .list ≡ l
+  pub count : r .count ≡ 0
+
+-- what a call c gives on a window w that is sound
+pub record Does (c : Call) (w : Window) (r : Left) : Type 0 where
+  pub answer : r .answer ≡ windowStep w c .answer
+  pub window : windowOf (r .state) ≡ windowStep w c .after
+  pub returned : take (r .count) (r .list) ≡ windowStep w c .returned
+  pub count : r .count ≡ length (windowStep w c .returned)
+
+-- a call c on state u with the return list l leaves r
+pub record Meets (c : Call) (u : State) (l : List ℕ) (r : Left) : Type 0 where
+  -- "Refusals 1 to 6 and 8 leave header and all lists as they came."
+  pub refuses : (refusal u c ≡ 0 → ⊥) → (r .answer ≡ refused (refusal u c)) × Unaltered u l r
+  -- "For a sound state each exported call's answer, header, page and block words, cells in use and return list equal a definition"
+  pub sound : refusal u c ≡ 0 → Sound (windowOf u) → Does c (windowOf u) r
+  pub occupied : refusal u c ≡ 0 → Sound (windowOf u) → r .answer ≡ refused 4 → Unaltered u l r
+  -- a refusal 4 returns nothing, on every state
+  pub none-with-4 : r .answer ≡ refused 4 → r .count ≡ 0
+  -- "check: then 7, exactly if not sound"
+  pub unsound : c ≡ check → refusal u c ≡ 0 → (Sound (windowOf u) → ⊥) → r .answer ≡ refused 7
+  -- "it never writes"
+  pub reads : c ≡ check → Unaltered u l r
+  -- "Lists past the returned count, and memory past the named lengths, stay always"
+  pub past-list : drop (r .count) (r .list) ≡ drop (r .count) l
+  pub long-list : length (r .list) ≡ length l
+  pub past-memory : SamePast (u .header .«window_size») (u .memory) (r .state .memory)
+  pub lengths : SameLengths (u .memory) (r .state .memory)

@@ -1,0 +1,380 @@
+-- What each call does to the window. Document 01, 'Masks and search', 'Range removal', 'Release', 'Beside the port'. On a sound
+-- window; the refusals for arguments come first. Definitions only. Assumes nothing.
+use mathlib.Core.Bool.{Bool, true, false, cond, not, _&&_, _||_}
+use mathlib.Core.Option.{Option, none, some}
+use mathlib.Core.List.{List, [], _++_}
+use Prim.Native.Nat.{ℕ, zero, suc, _+_, _-_, _*_, _/_, _%_, _^_}
+use lib.Dec.{leb, ltb, eqb}
+use lib.ListN.{length}
+use Rattle.words.specs.First.{firstRound}
+use Rattle.words.specs.Word.{isSet, withBit, setBit, clearBit, wordOf, span}
+use Rattle.window.specs.declared.AdaptiveReceiverPacketWindow.{AdaptiveReceiverPacketWindow}
+use Rattle.window.specs.Memory.{position}
+use Rattle.model.specs.Calls.{Call, insert, get, exchange, remove, successor-after, first-from, remove-range, clear, clear-bounded, release-retired, iter, stranger, check, Answer, done, new, replaced, absent, found, pair, released, refused}
+use Rattle.model.specs.Table.{Pair, valueIf, rangeCount, within, covers, sum, heldInRange, searchFrom}
+use Rattle.model.specs.Demand3.{one}
+use Rattle.model.specs.Window.{Page, Block, Window, window, upd, sizeOf, capacityOf, pagesOf, blocksOf, cellOf, isRetired, liveAt, iterStep}
+use Rattle.model.specs.Pages.{valuesIn, holdsValue, setValue, takeCell, unlessEmptied, demotes, afterRemoval, insertPage, drainPage}
+
+-- ---- changes of the header, one field each
+
+abbrev pub headerWith : AdaptiveReceiverPacketWindow → (len retiredHeld cursor summary retiredBlocks promotions demotions : ℕ) → AdaptiveReceiverPacketWindow
+headerWith h len retiredHeld cursor summary retiredBlocks promotions demotions = record {
+  «window_size» = h .«window_size»;
+  n = h .n;
+  «demote_at» = h .«demote_at»;
+  len = len;
+  «retired_held» = retiredHeld;
+  «release_cursor» = cursor;
+  «nonempty_summary» = summary;
+  «retired_blocks» = retiredBlocks;
+  promotions = promotions;
+  demotions = demotions;
+}
+
+abbrev pub setLen : AdaptiveReceiverPacketWindow → ℕ → AdaptiveReceiverPacketWindow
+setLen h x = headerWith h x (h .«retired_held») (h .«release_cursor») (h .«nonempty_summary») (h .«retired_blocks») (h .promotions) (h .demotions)
+
+abbrev pub setHeld : AdaptiveReceiverPacketWindow → ℕ → AdaptiveReceiverPacketWindow
+setHeld h x = headerWith h (h .len) x (h .«release_cursor») (h .«nonempty_summary») (h .«retired_blocks») (h .promotions) (h .demotions)
+
+abbrev pub setCursor : AdaptiveReceiverPacketWindow → ℕ → AdaptiveReceiverPacketWindow
+setCursor h x = headerWith h (h .len) (h .«retired_held») x (h .«nonempty_summary») (h .«retired_blocks») (h .promotions) (h .demotions)
+
+abbrev pub setSummary : AdaptiveReceiverPacketWindow → ℕ → AdaptiveReceiverPacketWindow
+setSummary h x = headerWith h (h .len) (h .«retired_held») (h .«release_cursor») x (h .«retired_blocks») (h .promotions) (h .demotions)
+
+abbrev pub setRetiredBlocks : AdaptiveReceiverPacketWindow → ℕ → AdaptiveReceiverPacketWindow
+setRetiredBlocks h x = headerWith h (h .len) (h .«retired_held») (h .«release_cursor») (h .«nonempty_summary») x (h .promotions) (h .demotions)
+
+abbrev pub setPromotions : AdaptiveReceiverPacketWindow → ℕ → AdaptiveReceiverPacketWindow
+setPromotions h x = headerWith h (h .len) (h .«retired_held») (h .«release_cursor») (h .«nonempty_summary») (h .«retired_blocks») x (h .demotions)
+
+abbrev pub setDemotions : AdaptiveReceiverPacketWindow → ℕ → AdaptiveReceiverPacketWindow
+setDemotions h x = headerWith h (h .len) (h .«retired_held») (h .«release_cursor») (h .«nonempty_summary») (h .«retired_blocks») (h .promotions) x
+
+-- ---- changes of the window
+
+abbrev pub withHeader : Window → AdaptiveReceiverPacketWindow → Window
+withHeader w h = window h (w .pages) (w .blocks)
+
+abbrev pub block : ℕ → ℕ → ℕ → Block
+block nonempty retired live = record { nonempty = nonempty; retired = retired; live = live }
+
+abbrev pub withBlock : Window → ℕ → Block → Window
+withBlock w b x = window (w .header) (w .pages) (upd (w .blocks) b x)
+
+abbrev pub withPage : Window → ℕ → Page → Window
+withPage w g p = window (w .header) (upd (w .pages) g p) (w .blocks)
+
+-- the bits for page g in its block's nonempty word, and for its block in the summary, are those of what the page now holds
+unfoldable pub noteNonempty : Window → ℕ → Window
+noteNonempty w g =
+    let b = g / 64 in
+    let word = withBit (w .blocks b .nonempty) (g % 64) (one (holdsValue (w .pages g))) in
+    window (setSummary (w .header) (withBit (w .header .«nonempty_summary») b (one (not (eqb word 0)))))
+    (w .pages) (upd (w .blocks) b (block word (w .blocks b .retired) (w .blocks b .live)))
+
+-- page g replaced, and noted
+abbrev pub putPage : Window → ℕ → Page → Window
+putPage w g p = noteNonempty (withPage w g p) g
+
+-- k live values more, or fewer, in block b
+abbrev pub addLive : Window → ℕ → ℕ → Window
+addLive w b k =
+    withBlock (withHeader w (setLen (w .header) (w .header .len + k))) b (block (w .blocks b .nonempty) (w .blocks b .retired) (w .blocks b .live + k))
+
+abbrev pub subLive : Window → ℕ → ℕ → Window
+subLive w b k =
+    withBlock (withHeader w (setLen (w .header) (w .header .len - k))) b (block (w .blocks b .nonempty) (w .blocks b .retired) (w .blocks b .live - k))
+
+-- "Promotions and demotions wrap at 2^64"
+abbrev pub countPromotion : Window → Bool → Window
+countPromotion w happened = withHeader w (setPromotions (w .header) ((w .header .promotions + one happened) % 2 ^ 64))
+
+abbrev pub countDemotion : Window → Bool → Window
+countDemotion w happened = withHeader w (setDemotions (w .header) ((w .header .demotions + one happened) % 2 ^ 64))
+
+-- the retired word of block b
+abbrev pub setMarks : Window → ℕ → ℕ → Window
+setMarks w b word = withBlock w b (block (w .blocks b .nonempty) word (w .blocks b .live))
+
+-- "When none is held, all block marks drop"
+abbrev pub dropBlockMarks : Window → Window
+dropBlockMarks w = cond (eqb (w .header .«retired_held») 0) (withHeader w (setRetiredBlocks (w .header) 0)) w
+
+-- "its block mark turns into marks on all its nonempty pages"
+unfoldable pub splitBlock : Window → ℕ → Window
+splitBlock w b =
+    cond (isSet (w .header .«retired_blocks») b)
+    (setMarks (withHeader w (setRetiredBlocks (w .header) (clearBit (w .header .«retired_blocks») b))) b (w .blocks b .nonempty))
+    w
+
+-- ---- release
+
+-- a window, and the values that a call returns
+pub record Returned : Type 0 where
+  pub after : Window
+  pub out : List ℕ
+
+abbrev pub returnedBy : Window → List ℕ → Returned
+returnedBy w l = record { after = w; out = l }
+
+abbrev pub allPositions : ℕ → Bool
+allPositions j = true
+
+-- "values by rising position": the first k values of a retired page; an emptied page loses its mark
+unfoldable pub releasePage : Window → ℕ → ℕ → Returned
+releasePage w g k =
+    let d = drainPage 64 0 allPositions k (w .pages g) in
+    let v = putPage (withHeader w (setHeld (w .header) (w .header .«retired_held» - length (d .out)))) g (unlessEmptied (d .page)) in
+    returnedBy
+    (cond (holdsValue (d .page)) v (dropBlockMarks (setMarks v (g / 64) (clearBit (v .blocks (g / 64) .retired) (g % 64)))))
+    (d .out)
+
+-- "Only retired pages that hold a value are inspected. .. Pages come from release_cursor upwards, then round": the next; pagesOf w if none
+unfoldable pub nextRetired : Window → ℕ
+nextRetired w = firstRound (λ (g : ℕ). isRetired w g && holdsValue (w .pages g)) (pagesOf w) (w .header .«release_cursor»)
+
+-- "An emptied page moves the cursor to the next page, another keeps it"
+abbrev pub moveCursor : Window → ℕ → Window
+moveCursor w g = withHeader w (setCursor (w .header) (cond (holdsValue (w .pages g)) g ((g + 1) % pagesOf w)))
+
+pub record Release : Type 0 where
+  pub after : Window
+  pub out : List ℕ
+  pub units : ℕ
+
+abbrev pub releaseOf : Window → List ℕ → ℕ → Release
+releaseOf w out units = record { after = w; out = out; units = units }
+
+-- "Each page inspected and each value released costs one unit"; fuel bounds the pages inspected, and the budget is enough of it
+unfoldable pub releaseUnits : ℕ → ℕ → Window → Release
+releaseUnits zero b w = releaseOf (dropBlockMarks w) [] 0
+releaseUnits (suc f) zero w = releaseOf (dropBlockMarks w) [] 0
+releaseUnits (suc f) (suc b) w = elim (ltb (nextRetired w) (pagesOf w)) [
+  | true ↦
+      let g = nextRetired w in
+      let p = releasePage w g b in
+      let r = releaseUnits f (b - length (p .out)) (moveCursor (p .after) g) in
+      releaseOf (r .after) (p .out ++ r .out) (1 + length (p .out) + r .units)
+  | false ↦ releaseOf (dropBlockMarks w) [] 0
+]
+
+abbrev pub release : ℕ → Window → Release
+release b w = releaseUnits b b w
+
+-- ---- revival
+
+-- "Insert into a retired page first releases that page whole, the cursor kept"; "Before .. one is revived, empty or not, its block
+-- mark turns into marks on all its nonempty pages"
+unfoldable pub revive : Window → ℕ → Returned
+revive w g =
+    let v = splitBlock w (g / 64) in
+    cond (isRetired w g) (cond (isRetired v g) (releasePage v g 64) (returnedBy v [])) (returnedBy w [])
+
+-- ---- retiring
+
+-- the values at the positions of page g where P holds, taken out now; "A page already retired is skipped"; demotion is tested once
+unfoldable pub removeSlots : Window → ℕ → (ℕ → Bool) → Returned
+removeSlots w g P =
+    let d = drainPage 64 0 P 64 (w .pages g) in
+    let demoteAt = w .header .«demote_at» in
+    cond (isRetired w g || not (holdsValue (w .pages g))) (returnedBy w [])
+    (returnedBy
+    (countDemotion (putPage (subLive w (g / 64) (length (d .out))) g (afterRemoval demoteAt (d .page))) (demotes demoteAt (d .page)))
+    (d .out))
+
+-- pages of block b from `from` up to `to`
+abbrev pub pagesIn : ℕ → ℕ → ℕ → ℕ → Bool
+pagesIn from to b i = within from to (64 * b + i)
+
+-- "its whole nonempty pages get marks", in block b: those not marked yet
+abbrev pub newMarks : Window → ℕ → ℕ → ℕ → ℕ → Bool
+newMarks w from to b i = pagesIn from to b i && (isSet (w .blocks b .nonempty) i && not (isSet (w .blocks b .retired) i))
+
+-- k values of block b that were live are now retired
+abbrev pub retireLive : Window → ℕ → ℕ → Window
+retireLive w b k = withHeader (subLive w b k) (setHeld (setLen (w .header) (w .header .len - k)) (w .header .«retired_held» + k))
+
+-- "Before whole pages of a block are marked .. its block mark turns into marks on all its nonempty pages"
+unfoldable pub retireInBlock : Window → ℕ → ℕ → ℕ → Window
+retireInBlock w from to b =
+    let v = splitBlock w b in
+    let k = sum 64 (λ (i : ℕ). cond (newMarks v from to b i) (valuesIn (v .pages (64 * b + i))) 0) in
+    retireLive (setMarks v b (wordOf (λ (i : ℕ). isSet (v .blocks b .retired) i || newMarks v from to b i))) b k
+
+-- "a block covered entirely gets one bit instead, empty or not"
+unfoldable pub retireBlock : Window → ℕ → Window
+retireBlock w b = retireLive (withHeader w (setRetiredBlocks (w .header) (setBit (w .header .«retired_blocks») b))) b (w .blocks b .live)
+
+abbrev pub coversBlock : ℕ → ℕ → ℕ → Bool
+coversBlock from to b = leb from (64 * b) && leb (64 * b + 64) to
+
+-- the whole pages from `from` up to `to`, in the n blocks from b upwards; `several`: they reach over several blocks
+unfoldable pub retireBlocks : ℕ → ℕ → Window → ℕ → ℕ → Bool → Window
+retireBlocks zero b w from to several = w
+retireBlocks (suc n) b w from to several =
+    retireBlocks n (suc b)
+    (cond (ltb from (64 * b + 64) && ltb (64 * b) to)
+    (cond (several && coversBlock from to b) (retireBlock w b) (retireInBlock w from to b))
+    w)
+    from to several
+
+unfoldable pub retirePages : Window → ℕ → ℕ → Window
+retirePages w from to =
+    cond (ltb from to) (retireBlocks (blocksOf w) 0 w from to (not (eqb (from / 64) ((to - 1) / 64)))) w
+
+-- "A stretch inside one page is emptied value by value; otherwise its first partial page, then its last, then its whole nonempty
+-- pages get marks": positions from a up to e, a below e
+unfoldable pub retireStretch : Window → ℕ → ℕ → Returned
+retireStretch w a e =
+    let inside = removeSlots w (a / 64) (λ (j : ℕ). within a e (a / 64 * 64 + j)) in
+    let head = cond (eqb (a % 64) 0) (returnedBy w []) (removeSlots w (a / 64) (λ (j : ℕ). leb (a % 64) j)) in
+    let tail = cond (eqb (e % 64) 0) (returnedBy (head .after) []) (removeSlots (head .after) (e / 64) (λ (j : ℕ). ltb j (e % 64))) in
+    cond (eqb (a / 64) ((e - 1) / 64)) inside
+    (returnedBy (retirePages (tail .after) ((a + 63) / 64) (e / 64)) (head .out ++ tail .out))
+
+-- "The positions are count in a row from first's, wrapping at capacity, first the stretch up to capacity, then that from 0"
+unfoldable pub retireRange : Window → ℕ → ℕ → Returned
+retireRange w start count =
+    let first = retireStretch w start (capacityOf w) in
+    let second = retireStretch (first .after) 0 (start + count - capacityOf w) in
+    cond (leb (start + count) (capacityOf w)) (retireStretch w start (start + count))
+    (returnedBy (second .after) (first .out ++ second .out))
+
+-- "Retiring everything sets every block's bit."
+unfoldable pub retireAll : Window → Window
+retireAll w =
+    dropBlockMarks
+    (window
+    (setRetiredBlocks (setHeld (setLen (w .header) 0) (w .header .«retired_held» + w .header .len)) (span 0 (blocksOf w)))
+    (w .pages)
+    (λ (b : ℕ). cond (ltb b (blocksOf w)) (block (w .blocks b .nonempty) (w .blocks b .retired) 0) (w .blocks b)))
+
+-- "clear_bounded .. releases from page 0, at most its number of values, inspections free, the cursor kept": of n pages from g upwards
+unfoldable pub releasePages : ℕ → ℕ → ℕ → Window → Returned
+releasePages zero g k w = returnedBy w []
+releasePages (suc n) g zero w = returnedBy w []
+releasePages (suc n) g (suc k) w =
+    let p = cond (holdsValue (w .pages g)) (releasePage w g (suc k)) (returnedBy w []) in
+    let r = releasePages n (suc g) (suc k - length (p .out)) (p .after) in
+    returnedBy (r .after) (p .out ++ r .out)
+
+-- ---- stranger
+
+-- a sequence's "distance from first (as in count, less 1) is count or more, or whose top bit is set"
+abbrev pub isStranger : ℕ → ℕ → Option Pair → Bool
+isStranger first count none = false
+isStranger first count (some e) = leb (count + 1) (rangeCount first (e .sequence)) || leb (2 ^ 31) (e .sequence)
+
+abbrev pub pairAnswer : Option Pair → Answer
+pairAnswer none = absent
+pairAnswer (some e) = pair (e .sequence) (e .value) 0
+
+-- "some live pair at a position of first..last": the first of them by position from first's, round the capacity
+unfoldable pub strangerIn : Window → ℕ → ℕ → Answer
+strangerIn w first last =
+    let start = position (sizeOf w) first in
+    let q = firstRound (λ (r : ℕ). covers (capacityOf w) start (rangeCount first last) r && isStranger first (rangeCount first last) (liveAt w r)) (capacityOf w) start in
+    cond (ltb q (capacityOf w)) (pairAnswer (liveAt w q)) absent
+
+-- ---- the calls
+
+-- the window after a call, its answer, and the values in its return list
+pub record Effect : Type 0 where
+  pub after : Window
+  pub answer : Answer
+  pub returned : List ℕ
+
+abbrev pub effect : Window → Answer → List ℕ → Effect
+effect w a l = record { after = w; answer = a; returned = l }
+
+abbrev pub unless : ℕ → Bool → Window → Effect → Effect
+unless k taken w e = cond taken e (effect w (refused k) [])
+
+-- the page of a sequence, and what stands at its position
+abbrev pub pageOf : Window → ℕ → ℕ
+pageOf w s = position (sizeOf w) s / 64
+
+abbrev pub liveHere : Window → ℕ → Option Pair
+liveHere w s = liveAt w (position (sizeOf w) s)
+
+-- the answer `new` counts one live value more
+abbrev pub isNew : Answer → Bool
+isNew done = false
+isNew new = true
+isNew (replaced v) = false
+isNew absent = false
+isNew (found n) = false
+isNew (pair s v next) = false
+isNew (released values units) = false
+isNew (refused k) = false
+
+unfoldable pub insertStep : Window → ℕ → ℕ → Effect
+insertStep w s v =
+    let g = pageOf w s in
+    let r = revive w g in
+    let i = insertPage (w .header .n) (r .after .pages g) s v in
+    effect
+    (cond (isNew (i .answer))
+    (addLive (countPromotion (putPage (r .after) g (i .page)) (i .promotes)) (g / 64) 1)
+    (withPage (r .after) g (i .page)))
+    (i .answer) (r .out)
+
+-- whether get finds the sequence
+abbrev pub finds : ℕ → Option Pair → Bool
+finds s none = false
+finds s (some e) = eqb (e .sequence) s
+
+unfoldable pub exchangeStep : Window → ℕ → ℕ → Effect
+exchangeStep w s v =
+    let g = pageOf w s in
+    effect (cond (finds s (liveHere w s)) (withPage w g (setValue (w .pages g) (cellOf (w .pages g) (s % 64)) v)) w) (valueIf s (liveHere w s)) []
+
+unfoldable pub removeStep : Window → ℕ → Effect
+removeStep w s =
+    let g = pageOf w s in
+    let p = takeCell (w .pages g) (cellOf (w .pages g) (s % 64)) in
+    let demoteAt = w .header .«demote_at» in
+    effect
+    (cond (finds s (liveHere w s))
+    (countDemotion (putPage (subLive w (g / 64) 1) g (afterRemoval demoteAt p)) (demotes demoteAt p))
+    w)
+    (valueIf s (liveHere w s)) []
+
+-- "If nothing was retired before, release_cursor becomes the page of first. Then one release with 256 runs. The answer counts live
+-- values only."
+unfoldable pub rangeStep : Window → ℕ → ℕ → Effect
+rangeStep w start count =
+    let t = retireRange w start count in
+    let v = cond (eqb (w .header .«retired_held») 0) (withHeader (t .after) (setCursor (t .after .header) (start / 64))) (t .after) in
+    let r = release 256 v in
+    effect (r .after) (found (heldInRange (capacityOf w) start count (liveAt w))) (t .out ++ r .out)
+
+-- "clear retires everything and releases with 256 from the cursor as it is."
+unfoldable pub clearStep : Window → Effect
+clearStep w = let r = release 256 (retireAll w) in effect (r .after) done (r .out)
+
+unfoldable pub clearBoundedStep : Window → ℕ → Effect
+clearBoundedStep w n = let r = releasePages (pagesOf w) 0 n (retireAll w) in effect (r .after) (found (length (r .out))) (r .out)
+
+unfoldable pub releaseStep : Window → ℕ → Effect
+releaseStep w b = let r = release b w in effect (r .after) (released (length (r .out)) (r .units)) (r .out)
+
+-- the refusals for arguments, in document 01's order, and then the call
+unfoldable pub windowStep : Window → Call → Effect
+windowStep w (insert s v listed) = unless 6 listed w (insertStep w s v)
+windowStep w (get s) = effect w (valueIf s (liveHere w s)) []
+windowStep w (exchange s v) = exchangeStep w s v
+windowStep w (remove s) = removeStep w s
+windowStep w (successor-after s) = effect w (searchFrom (capacityOf w) (liveAt w) (position (sizeOf w) (s + 1))) []
+windowStep w (first-from s) = effect w (searchFrom (capacityOf w) (liveAt w) (position (sizeOf w) s)) []
+windowStep w (remove-range a b listed) =
+    unless 6 listed w (unless 5 (leb (rangeCount a b) (sizeOf w)) w (rangeStep w (position (sizeOf w) a) (rangeCount a b)))
+windowStep w (clear listed) = unless 6 listed w (clearStep w)
+windowStep w (clear-bounded n listed) = unless 6 listed w (unless 8 (leb n 256) w (clearBoundedStep w n))
+windowStep w (release-retired b listed) = unless 6 listed w (unless 8 (leb b 256) w (releaseStep w b))
+windowStep w (iter cell) = effect w (iterStep w cell) []
+windowStep w (stranger a b) = unless 5 (leb (rangeCount a b) (sizeOf w)) w (effect w (strangerIn w a b) [])
+windowStep w check = effect w done []
