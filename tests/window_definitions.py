@@ -5,13 +5,16 @@ program's output.
 For whoever changes a definition that contracts cite, and for its reviewers:
 
     tests/window_definitions.py [--large] CALLS ANSWERS [CALLS ANSWERS ...]
+    tests/window_definitions.py --words [--large] CALLS WORDS [CALLS WORDS ...]
     tests/window_definitions.py --self-check
 
 CALLS, ANSWERS, --large and the exit status are those of tests/definitions.py,
 whose sibling this is. Checked for each call: the answer, all four counts, the
 returned values in order, the listed pairs in order, and that the window after
 it is sound. Prints 'N calls agree with the window's definitions', or the first
-differences.
+differences. WORDS is what the oracle gives with --words: the source's header,
+block words, page words and cells in use after each line, which must be those
+of the definitions.
 
 The first part follows the definitions one by one and clause by clause, in
 their order and with their names (a hyphen becomes an underscore):
@@ -39,9 +42,10 @@ from functools import cached_property
 
 sys.dont_write_bytecode = True  # leave nothing beside the tests
 import definitions
+import table
 from definitions import (
     CALLS, SHORT, SamePairs, absent, capacity, check, clear, clear_bounded, covers, done, exchange, firstFrom,
-    firstRound, first_from, found, get, held, holds, insert, iter, minus, new, pageCount, pair, pairOf,
+    firstRound, first_from, found, get, held, holds, insert, iter, limits, minus, new, pageCount, pair, pairOf,
     pairsBelow, position, rangeCount, refused, release_retired, released, remove, remove_range, replaced, same,
     sequenceOf, stranger, successor_after, valueIf, within)
 
@@ -1377,6 +1381,46 @@ class Comparison(definitions.Comparison):
         return Run(*numbers)
 
 
+def state_of(w):
+    """A window's whole state, as oracle/src/state.rs writes it; '-' for none."""
+    if w is None:
+        return '-'
+    blocks = ' '.join('%d %d %d' % w.blocks(b) for b in range(blocksOf(w)))
+    pages = ';'.join(state_of_page(g, w.pages(g)) for g in w.pages.numbers if w.pages(g).kind != 0)
+    return '%s|%s|%s' % (' '.join(map(str, w.header)), blocks, pages)
+
+
+def state_of_page(g, p):
+    cells = ''.join(' %d.%d.%d' % (c, p.sequences(c), p.values(c)) for c in range(64) if isSet(p.filled, c))
+    return '%d %d %d %d%s' % (g, p.kind, p.occupied, p.filled, cells)
+
+
+class WordsComparison:
+    """One run of the oracle with --words."""
+
+    def __init__(self, large):
+        self.largest_window = table.MAX_NUMBER if large else table.LINE_WINDOW
+        self.window, self.calls = None, 0
+
+    def line(self, call, got):
+        """Make the call's step, and raise Differs if the state is another."""
+        parsed = table.parse(call, self.largest_window)
+        if parsed is not None:
+            self.step(*parsed)
+        same('state', state_of(self.window), got)
+
+    def step(self, letter, numbers):
+        if letter == 'n':
+            if limits(*numbers) == 0:
+                self.window = freshWindow(*numbers)
+        elif self.window is not None:
+            self.window = windowStep(self.window, CALLS[letter](*numbers)).after
+            self.calls += 1
+
+    def close(self):
+        """Nothing is left to compare at the end."""
+
+
 # ==== The self-check
 
 @contextmanager
@@ -1509,4 +1553,6 @@ def self_check(seed=1):
 if __name__ == '__main__':
     if sys.argv[1:] == ['--self-check']:
         sys.exit(self_check())
+    if sys.argv[1:2] == ['--words']:
+        sys.exit(definitions.main(sys.argv[2:], WordsComparison, 'window_definitions.py --words', "the source's words"))
     sys.exit(definitions.main(sys.argv[1:], Comparison, 'window_definitions.py', "the window's definitions"))

@@ -1,7 +1,8 @@
 //! The line program of document 01 over the unchanged source.
 //!
 //! Reads calls from standard input, writes one line of answer for each.
-//! `--large` lifts the limit of 4096 on window_size.
+//! `--large` lifts the limit of 4096 on window_size. `--words` writes in place
+//! of each answer the window's whole state after the line (`-` if there is none).
 
 /// The source's work counters stay out.
 macro_rules! count_work {
@@ -10,6 +11,7 @@ macro_rules! count_work {
 
 mod line;
 mod reference;
+mod state;
 mod value;
 #[path = "../target/window.rs"]
 mod window;
@@ -60,6 +62,12 @@ impl Program {
             }
             Err(refusal) => Answer::Refused(refusal),
         })
+    }
+
+    fn state(&self) -> String {
+        self.window
+            .as_deref()
+            .map_or_else(|| "-".to_string(), state::written)
     }
 
     /// Len, retired_held, promotions and demotions; 0 with no window.
@@ -113,7 +121,7 @@ fn lines(input: &[u8]) -> impl Iterator<Item = &[u8]> {
         .map(|line| line.strip_suffix(b"\n").unwrap_or(line))
 }
 
-fn run(largest_window: u32) -> io::Result<()> {
+fn run(largest_window: u32, words: bool) -> io::Result<()> {
     let mut input = Vec::new();
     io::stdin().lock().read_to_end(&mut input)?;
     let mut output = io::BufWriter::new(io::stdout().lock());
@@ -122,22 +130,25 @@ fn run(largest_window: u32) -> io::Result<()> {
         window: None,
     };
     for line in lines(&input) {
-        writeln!(output, "{}", program.answer(line))?;
+        let answer = program.answer(line);
+        writeln!(output, "{}", if words { program.state() } else { answer })?;
     }
     output.flush()
 }
 
 fn main() -> ExitCode {
-    let arguments: Vec<String> = std::env::args().skip(1).collect();
-    let largest_window = match arguments.as_slice() {
-        [] => LARGEST_WINDOW,
-        [flag] if flag == "--large" => u32::MAX,
-        _ => {
-            eprintln!("usage: oracle [--large] < calls");
-            return ExitCode::from(2);
+    let (mut largest_window, mut words) = (LARGEST_WINDOW, false);
+    for argument in std::env::args().skip(1) {
+        match argument.as_str() {
+            "--large" => largest_window = u32::MAX,
+            "--words" => words = true,
+            _ => {
+                eprintln!("usage: oracle [--large] [--words] < calls");
+                return ExitCode::from(2);
+            }
         }
-    };
-    match run(largest_window) {
+    }
+    match run(largest_window, words) {
         Ok(()) => ExitCode::SUCCESS,
         Err(error) => {
             eprintln!("oracle: {error}");

@@ -40,9 +40,7 @@ pub trait Window: Memory {
     fn header(&self) -> WindowHeader;
 }
 
-/// The words and cells of a window, for comparisons in one process. The line
-/// program prints none of them.
-#[allow(dead_code)]
+/// The words and cells of a window, for comparisons with the port's.
 pub trait Memory {
     fn page_count(&self) -> usize;
     fn block_words(&self) -> &[u64];
