@@ -217,8 +217,8 @@ module _ (size : ℕ) where
     kept-clear l =
         let u = moved 0 cap (w .live) (w .retired) in
         let r = release pages 256 256 u (w .cursor) in
-        kept-unless (clear l) 6 l (result (positions fresh (r .retired) (r .cursor)) (some done) (r .out)) (outcome fresh done) (λ a h. (refl, refl))
-        (λ i. kept-emptying (clear l) (λ (q : ℕ). true) fresh (r .retired) (r .cursor) (r .out) (some done) (some done) (λ a. (refl, refl)) refl (λ s. refl)
+        kept-unless (clear l) 6 l _ (outcome fresh done) (λ a h. (refl, refl))
+        (λ i. kept-emptying (clear l) (λ (q : ℕ). true) fresh (r .retired) (r .cursor) _ (some done) (some done) (λ a. (refl, refl)) refl (λ s. refl)
         (λ q. refl) (λ q. omega (arith, held-le (r .retired q))) (release-cursor pages 256 256 u (w .cursor) (f .cursor))
         (λ v. omega (arith, release-times 256 v u (w .cursor) (f .cursor), all-moved v, weight-fresh cap (equals v))))
 

@@ -104,5 +104,6 @@ pub record Meets (c : Call) (u : State) (l : List ℕ) (r : Left) : Type 0 where
   -- "Lists past the returned count, and memory past the named lengths, stay always"
   pub past-list : drop (r .count) (r .list) ≡ drop (r .count) l
   pub long-list : length (r .list) ≡ length l
+  pub count-fits : r .count ≤ length l
   pub past-memory : SamePast (u .header .«window_size») (u .memory) (r .state .memory)
   pub lengths : SameLengths (u .memory) (r .state .memory)
