@@ -1,15 +1,17 @@
 -- Document 01's listing and its edge cases marked *, as one list each, by computation on the definitions. Assumes nothing.
 use mathlib.Core.Path.{_≡_, refl}
 use mathlib.Core.Bool.{true}
+use mathlib.Core.Option.{some}
 use mathlib.Core.List.{List, [], _∷_, _++_}
 use Prim.Native.Nat.{ℕ, zero, suc, _+_}
 use Rattle.words.specs.First.{firstFrom, firstRound}
 use Rattle.words.specs.Word.{bitAt, withBit, countBelow, span, wordBelow, lowest}
 use Rattle.window.specs.Memory.{capacity}
 use Rattle.window.specs.Refusals.{limits}
-use Rattle.window.specs.New.{fresh}
+use Rattle.window.specs.New.{fresh as freshHeader}
 use Rattle.model.specs.Calls.{Call, insert, successor-after, remove-range, clear, clear-bounded, release-retired, Answer, done, new, absent, found, released, refused}
-use Rattle.model.specs.Table.{rangeCount, sum, heldInRange, searchFrom}
+use Rattle.model.specs.Table.{pairOf, fresh, at, rangeCount, sum, heldInRange, searchFrom, tableStep}
+use Rattle.model.specs.Positions.{Positions, positions, drain, inPage, sweep, sweepRange, release, step}
 use Rattle.model.specs.Window.{Window, window, noPage, noBlock, cellOf}
 use Rattle.model.specs.Pages.{freeCell, promoted, nthSet, packed, insertPage, drainPage}
 use Rattle.model.specs.Steps.{noteNonempty, splitBlock, releasePage, nextRetired, releaseUnits, revive, removeSlots, retireInBlock, retireBlock, retireBlocks, retirePages, retireStretch, retireRange, retireAll, releasePages, insertStep, rangeStep, clearStep, clearBoundedStep, releaseStep, windowStep, Effect}
@@ -39,7 +41,7 @@ after w [] = w
 after w (c ∷ cs) = after (windowStep w c .after) cs
 
 abbrev freshWindow : ℕ → ℕ → ℕ → Window
-freshWindow size n d = window (fresh size n d) (λ g. noPage) (λ b. noBlock)
+freshWindow size n d = window (freshHeader size n d) (λ g. noPage) (λ b. noBlock)
 
 -- the n numbers from k upwards; the inserts of n sequences from 0 upwards, each with its own number as value
 abbrev from : ℕ → ℕ → List ℕ
@@ -54,8 +56,17 @@ listing : lines (freshWindow 64 2 1)
     (insert 5 50 true ∷ insert 69 51 true ∷ insert 6 60 true ∷ insert 7 70 true ∷ remove-range 6 7 true ∷ clear true ∷ successor-after 5 ∷ [])
     ≡ line new 1 0 0 0 [] ∷ line (refused 4) 1 0 0 0 [] ∷ line new 2 0 0 0 [] ∷ line new 3 0 1 0 []
     ∷ line (found 2) 1 0 1 1 (60 ∷ 70 ∷ []) ∷ line done 0 0 1 1 (50 ∷ []) ∷ line absent 0 0 1 1 [] ∷ []
-unfolding firstFrom firstRound bitAt withBit countBelow span wordBelow lowest capacity fresh rangeCount sum heldInRange searchFrom cellOf freeCell promoted nthSet packed insertPage drainPage noteNonempty splitBlock releasePage nextRetired releaseUnits revive removeSlots retireStretch retireRange retireAll insertStep rangeStep clearStep windowStep
+unfolding firstFrom firstRound bitAt withBit countBelow span wordBelow lowest capacity freshHeader rangeCount sum heldInRange searchFrom cellOf freeCell promoted nthSet packed insertPage drainPage noteNonempty splitBlock releasePage nextRetired releaseUnits revive removeSlots retireStretch retireRange retireAll insertStep rangeStep clearStep windowStep
 listing = refl
+
+-- "At window_size 64, range 2147483647..0 is positions 63 and 0": over positions, and in the plain table
+twoPairs : Positions
+twoPairs = positions (at (at fresh 0 (some (pairOf 0 10))) 63 (some (pairOf 63 13))) fresh 0
+
+range-over-half : (step 64 twoPairs (remove-range 2147483647 0 true) .returned ≡ 13 ∷ 10 ∷ [])
+    × (tableStep 64 (twoPairs .live) (remove-range 2147483647 0 true) .answer ≡ some (found 2))
+unfolding twoPairs step tableStep capacity firstFrom firstRound rangeCount sum heldInRange drain inPage sweep sweepRange release
+range-over-half = (refl, refl)
 
 edge-cases :
     -- window_size 0 refused 1; 65536 taken; 65537 refused 1
@@ -86,5 +97,5 @@ edge-cases :
     -- Straight after that clear, insert 100 drops nothing; insert 250 drops the values of 252..255
     × (lines (after (freshWindow 512 8 0) (insertsFrom 0 512 ++ clear true ∷ [])) (insert 100 1 true ∷ insert 250 2 true ∷ [])
     ≡ line new 1 260 8 0 [] ∷ line new 2 256 8 0 (from 252 4) ∷ [])
-unfolding limits firstFrom firstRound bitAt withBit countBelow span wordBelow lowest capacity fresh rangeCount sum heldInRange searchFrom cellOf freeCell promoted nthSet packed insertPage drainPage noteNonempty splitBlock releasePage nextRetired releaseUnits revive removeSlots retireInBlock retireBlock retireBlocks retirePages retireStretch retireRange retireAll releasePages insertStep rangeStep clearStep clearBoundedStep releaseStep windowStep
+unfolding limits firstFrom firstRound bitAt withBit countBelow span wordBelow lowest capacity freshHeader rangeCount sum heldInRange searchFrom cellOf freeCell promoted nthSet packed insertPage drainPage noteNonempty splitBlock releasePage nextRetired releaseUnits revive removeSlots retireInBlock retireBlock retireBlocks retirePages retireStretch retireRange retireAll releasePages insertStep rangeStep clearStep clearBoundedStep releaseStep windowStep
 edge-cases = (refl, refl, refl, refl, refl, refl, refl, refl, refl, refl, refl, refl, refl, refl, refl)
