@@ -7,5 +7,6 @@ pub mod Keeping
 pub mod Histories
 pub mod Carrying
 pub mod OverPositions
+pub mod Refusing
 pub mod Beginning
 pub mod Examples

@@ -8,4 +8,5 @@ pub mod ChangeLaws
 pub mod CountLaws
 pub mod SpanLaws
 pub mod LowestLaws
+pub mod WordLaws
 pub mod Examples
