@@ -5,9 +5,7 @@ use mathlib.Core.Bool.{Bool, true, false}
 use mathlib.Core.Option.{some}
 use mathlib.Core.List.{[]}
 use Prim.Native.Nat.{ℕ}
-use native.Mathlib.Omega.{arith}
 use lib.Dec.{leb}
-use Rattle.words.specs.Cases.{bool}
 use Rattle.model.specs.Calls.{Call, insert, get, exchange, remove, successor-after, first-from, remove-range, clear, clear-bounded, release-retired, iter, stranger, check, refused}
 use Rattle.model.specs.Table.{Table, rangeCount, outcome, tableStep, unless as unlessInTable, Outcome}
 use Rattle.model.specs.Positions.{Positions, stays, step, unless as unlessAtPositions, Result}
