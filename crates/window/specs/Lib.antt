@@ -3,6 +3,7 @@ pub mod Memory
 pub mod Refusals
 pub mod New
 pub mod MemoryLaws
+pub mod WordListLaws
 pub mod RefusalLaws
 pub mod NewLaws
 pub mod Examples

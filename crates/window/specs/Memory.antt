@@ -2,8 +2,8 @@
 -- Definitions only; their laws are in MemoryLaws. Assumes nothing.
 use mathlib.Core.Bool.{Bool}
 use mathlib.Core.List.{List, _++_}
-use Prim.Native.Nat.{ℕ, _+_, _/_, _%_, _^_}
-use lib.ListN.{drop, replicate}
+use Prim.Native.Nat.{ℕ, _+_, _*_, _/_, _%_, _^_}
+use lib.ListN.{drop, replicate, set}
 use lib.Dec.{leb}
 use Rattle.words.specs.First.{firstFrom}
 
@@ -41,3 +41,7 @@ memory s v p b = record { sequences = s; values = v; pages = p; blocks = b }
 -- a list with its first n words set to 0
 abbrev pub zeroed : ℕ → List ℕ → List ℕ
 zeroed n words = replicate n 0 ++ drop n words
+
+-- a list with these three words for page or block k
+unfoldable pub withWords : List ℕ → ℕ → ℕ → ℕ → ℕ → List ℕ
+withWords words k first second third = set (set (set words (3 * k) first) (3 * k + 1) second) (3 * k + 2) third

@@ -1,8 +1,8 @@
-// How much memory a window_size names, where a sequence stands in it, and words set to 0.
+// How much memory a window_size names, where a sequence stands in it, and words written.
 ghost use mathlib.Core.Path.{_≡_};
-ghost use Prim.Native.Nat.{_≤_};
+ghost use Prim.Native.Nat.{_+_, _*_, _≤_, _<_};
 ghost use lib.ListN.{length};
-ghost use Rattle.window.specs.Memory.{capacity as capacityOf, pageCount, blockCount, position as positionOf, zeroed};
+ghost use Rattle.window.specs.Memory.{capacity as capacityOf, pageCount, blockCount, position as positionOf, zeroed, withWords};
 
 // `window_size`, at least 64, raised to a power of two.
 pub fn capacity(window_size: u32) -> usize
@@ -50,4 +50,15 @@ pub fn clear_words(words: &mut [u64], n: usize)
         words[i] = 0;
         i += 1;
     }
+}
+
+// The three words of page or block k.
+pub fn put_words(words: &mut [u64], k: usize, first: u64, second: u64, third: u64)
+    requires { ⌜ (k < 1024) × (3 * k + 3 ≤ length (now words)) ⌝ }
+    ensures { λ _. ⌜ now (words .exit) ≡ withWords (now (words .entry)) k first second third ⌝ }
+{
+    let a = 3 * k;
+    words[a] = first;
+    words[a + 1] = second;
+    words[a + 2] = third;
 }

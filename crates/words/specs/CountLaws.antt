@@ -60,6 +60,22 @@ count-set n w k l e = omega (arith, count-with n w k 1 l (omega arith))
 pub count-clear : (n w k : ℕ) → k < n → bitAt w k ≡ 1 → countBelow n (withBit w k 0) + 1 ≡ countBelow n w
 count-clear n w k l e = omega (arith, count-with n w k 0 l (omega arith))
 
+-- more bits looked at
+pub count-up : (w a b : ℕ) → a ≤ b → countBelow a w ≤ countBelow b w
+count-up w a zero l = let e : a ≡ 0 = omega arith in rw e (le-refl _)
+count-up w a (suc b) l = elim (ℕ-discrete a (suc b)) [
+  | yes e ↦ rw e (le-refl _)
+  | no e ↦ omega (arith, count-up w a b (omega arith), count-suc b w)
+]
+
+-- more bits looked at, all clear
+pub count-gap : (w a b : ℕ) → a ≤ b → ((j : ℕ) → a ≤ j → j < b → bitAt w j ≡ 0) → countBelow b w ≡ countBelow a w
+count-gap w a zero l h = let e : a ≡ 0 = omega arith in rw e
+count-gap w a (suc b) l h = elim (ℕ-discrete a (suc b)) [
+  | yes e ↦ rw e
+  | no e ↦ omega (arith, count-suc b w, count-gap w a b (omega arith) (λ j x y. h j x (omega arith)), h b (omega arith) (le-refl (suc b)))
+]
+
 -- a word with no set bit is 0
 pub count-zero : (n w : ℕ) → w < 2 ^ n → countBelow n w ≡ 0 → w ≡ 0
 count-zero n w h e = ext-bits n w 0 h (omega (arith, h)) (λ k l. clear k l ∙ sym (bit-none k))

@@ -9,4 +9,5 @@ pub mod CountLaws
 pub mod SpanLaws
 pub mod LowestLaws
 pub mod WordLaws
+pub mod TestLaws
 pub mod Examples
