@@ -1,0 +1,4 @@
+-- Laws over plain variables that the proofs cite.
+pub mod Packing
+pub mod Settling
+pub mod Draining

@@ -1,0 +1,55 @@
+// A page's lowest values into a return list, for release and range removal.
+use crate::take_cell;
+use pages::PageWords;
+use pages::find::slot_at;
+ghost use Prim.Native.Nat.{_+_, _<_, _≤_};
+ghost use mathlib.Core.Path.{_≡_};
+ghost use lib.ListN.{length};
+ghost use Rattle.page_remove.specs.Contracts.{Drains};
+
+// The words of a page whose lowest values were taken out, how many they were, and whether each occupied position met had a cell.
+pub struct Drained {
+    pub words: PageWords,
+    pub count: usize,
+    pub sound: bool,
+}
+
+// The values at the positions named by `slots`, by rising position, at most `limit`, into `returned` from `at` on.
+pub fn drain(
+    sequences: &[u32],
+    values: &[u32],
+    returned: &mut [u32],
+    w: PageWords,
+    n: usize,
+    slots: u64,
+    at: usize,
+    limit: usize,
+) -> Drained
+    requires { ⌜ (length (now sequences) ≡ 64) × (length (now values) ≡ 64) × (n < 64) × (at + limit ≤ length (now returned)) ⌝ }
+    ensures { λ r. ⌜ Drains n w (now (sequences .entry)) (now (values .entry)) slots at limit (now (returned .entry)) r (now (returned .exit)) ⌝ }
+{
+    let mut left = w;
+    let mut count: usize = 0;
+    let mut sound = true;
+    while count < limit {
+        let occupied = left.occupied;
+        let selected = occupied & slots;
+        if selected == 0 {
+            break;
+        }
+        let slot = words::lowest(selected, 0);
+        let c = slot_at(sequences, left, n, slot);
+        if 64 <= c {
+            sound = false;
+            break;
+        }
+        returned[at + count] = values[c];
+        left = take_cell(left, slot, c);
+        count += 1;
+    }
+    Drained {
+        words: left,
+        count,
+        sound,
+    }
+}
