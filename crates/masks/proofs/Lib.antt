@@ -1,0 +1,3 @@
+-- Laws that only the proofs of this crate cite.
+pub mod Changing
+pub mod Marking
