@@ -15,6 +15,7 @@ use Rattle.model.specs.Window.{Page, cellOf, pairIn, standsAt}
 use Rattle.model.specs.Sound.{SoundPage}
 use Rattle.model.specs.Pages.{Inserted, inserted, putCell, setValue, promoted, insertPage}
 use Rattle.pages.specs.Page.{Placed, Here}
+use Rattle.pages.specs.ExchangeLaws.{value-placed}
 use Rattle.pages.specs.StandLaws.{stands-in, stands-out, stands-none}
 use Rattle.pages.specs.PlaceLaws.{cell-some, cell-used, cell-occupied, cell-le, placed, sound-of}
 use Rattle.page_insert.specs.Insert.{freeOf}
@@ -48,19 +49,7 @@ module _ (p : Page) (k v : ℕ) (l : cellOf p k < 64) where
   ]
 
   set-placed : (n : ℕ) → Placed n p → Placed n changed
-  set-placed n ok = record {
-    kinds = ok .kinds;
-    none-occupied = ok .none-occupied;
-    none-filled = ok .none-filled;
-    named = ok .named;
-    filled-by = ok .filled-by;
-    once = ok .once;
-    sparse = ok .sparse;
-    dense-words = ok .dense-words;
-    dense-cells = ok .dense-cells;
-    occupied-fits = ok .occupied-fits;
-    filled-fits = ok .filled-fits;
-  }
+  set-placed n ok = value-placed n p (cellOf p k) v ok
 
 -- ---- what an insert leaves
 

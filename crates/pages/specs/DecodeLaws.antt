@@ -1,5 +1,5 @@
--- The model's pages, read from the lent lists: one page, and the window with one page written. Assumes nothing.
-use mathlib.Core.Path.{_≡_, sym, ap, _∙_}
+-- The model's window, read from the lent lists: its header, one page, and the window with one page written. Assumes nothing.
+use mathlib.Core.Path.{_≡_, refl, sym, ap, _∙_}
 use mathlib.Core.List.{List}
 use Prim.Native.Nat.{ℕ, _+_, _*_, _≤_, _<_}
 use native.Mathlib.Omega.{arith}
@@ -14,6 +14,10 @@ use Rattle.model.specs.Steps.{withPage}
 use Rattle.pages.specs.declared.PageWords.{PageWords}
 use Rattle.pages.specs.Page.{wordsAt, withPageWords, partOf, withPart, cells, page}
 use Rattle.pages.specs.PartLaws.{cells-part, cells-other, part-same}
+
+pub header-at : (h : AdaptiveReceiverPacketWindow) (m : Memory) → decode h m .header ≡ h
+unfolding decode
+header-at h m = refl
 
 -- the page that the model reads is that of its words and parts
 read-page : (m : Memory) (g : ℕ) → pageAt m g ≡ page (wordsAt (m .pages) g) (partOf g (m .sequences)) (partOf g (m .values))

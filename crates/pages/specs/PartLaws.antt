@@ -5,7 +5,7 @@ use Prim.Native.Nat.{ℕ, _+_, _*_, _-_, _≤_, _<_}
 use native.Mathlib.Omega.{arith}
 use native.Mathlib.Decide.{ℕ-discrete, decLt}
 use lib.Dec.{ltb}
-use lib.ListN.{length, take, drop, getD, set, length-take, length-drop, length-append, List·getD-append}
+use lib.ListN.{length, take, drop, getD, set, length-take, length-drop, length-append, List·getD-append, take-append-drop}
 use lib.Seq.{length-take-le, take-at, drop-at, getD-take, getD-drop, getD-append-add, ext-getD, getD-set-same, getD-set-other}
 use borrow.Author.Tests.{eq-eqb, ne-eqb, lt-ltb, le-ltb, ltb-true}
 use Rattle.words.specs.Cases.{bool}
@@ -57,6 +57,11 @@ cells-part g xs = λ i c. each c i
 pub part-length : (g : ℕ) (xs : List ℕ) → 64 * g + 64 ≤ length xs → length (partOf g xs) ≡ 64
 unfolding partOf
 part-length g xs h = simp (length-take, length-drop) (omega arith)
+
+-- the part that stands there put back
+pub part-own : (g : ℕ) (xs : List ℕ) → withPart g xs (partOf g xs) ≡ xs
+unfolding partOf withPart
+part-own g xs = ap (λ (l : List ℕ). take (64 * g) xs ++ l) (take-append-drop 64 (drop (64 * g) xs)) ∙ take-append-drop (64 * g) xs
 
 module _ (g : ℕ) (xs ys : List ℕ) (within : 64 * g + 64 ≤ length xs) (full : length ys ≡ 64) where
   front : length (take (64 * g) xs) ≡ 64 * g

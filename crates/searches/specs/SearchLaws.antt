@@ -1,12 +1,12 @@
 -- What a search looks for, bit by bit, and in the model's terms where the window is sound. Assumes nothing.
 use mathlib.Core.Path.{_≡_, refl, sym, ap, _∙_}
-use mathlib.Core.Bool.{Bool, true, false, not, _&&_, _||_, and-true, and-false, and-comm}
+use mathlib.Core.Bool.{Bool, true, false, not, _&&_, _||_, true≢false, and-true, and-false, and-comm}
 use mathlib.Core.List.{List}
 use Prim.Native.Nat.{ℕ, _+_, _*_, _/_, _%_, _^_, _<_}
 use native.Mathlib.Omega.{arith}
 use lib.Dec.{eqb}
-use borrow.Author.Tests.{eq-eqb, ne-eqb}
-use Rattle.words.specs.Cases.{bool}
+use borrow.Author.Tests.{eqb-true, eq-eqb, ne-eqb, not-true, not-false}
+use Rattle.words.specs.Cases.{bool, both}
 use Rattle.words.specs.Word.{bitAt, isSet}
 use Rattle.words.specs.BitLaws.{bit-none}
 use Rattle.words.specs.WordLaws.{word-lt}
@@ -21,7 +21,7 @@ use Rattle.masks.specs.Blocks.{blockWordsAt, blockOf}
 use Rattle.masks.specs.BlockLaws.{block-at}
 use Rattle.words.specs.TestLaws.{word-set}
 use Rattle.searches.specs.declared.Select.{Select}
-use Rattle.searches.specs.declared.Select.the-variants.{Nonempty, Retired}
+use Rattle.searches.specs.declared.Select.the-variants.{Nonempty, Live, Retired}
 use Rattle.searches.specs.Search.{bitsWithin, chosen, isSelected, selectedPages}
 
 -- ---- bit by bit
@@ -81,7 +81,7 @@ pub selected-decode : (h : AdaptiveReceiverPacketWindow) (m : Memory) → Sound 
 unfolding decode
 selected-decode h m ok select g l = selected-is (decode h m) ok (m .blocks) select g l (block-at h m (g / 64) (omega arith))
 
--- in the order of the model's own tests (of live pages `selected-decode` is so already)
+-- in the order of the model's own tests
 module _ (h : AdaptiveReceiverPacketWindow) (m : Memory) (ok : Sound (decode h m)) (g : ℕ) (below : g < pageCount (h .«window_size»)) where
   pub selected-nonempty : isSelected (m .blocks) (h .«nonempty_summary») (h .«retired_blocks») Nonempty g ≡ holdsValue (decode h m .pages g)
   selected-nonempty = selected-decode h m ok Nonempty g below ∙ and-true (holdsValue (decode h m .pages g))
@@ -89,3 +89,17 @@ module _ (h : AdaptiveReceiverPacketWindow) (m : Memory) (ok : Sound (decode h m
   pub selected-retired : isSelected (m .blocks) (h .«nonempty_summary») (h .«retired_blocks») Retired g
       ≡ (isRetired (decode h m) g && holdsValue (decode h m .pages g))
   selected-retired = selected-decode h m ok Retired g below ∙ and-comm (holdsValue (decode h m .pages g)) (isRetired (decode h m) g)
+
+  -- of live pages: one that is selected, and one that is not and is not retired
+  pub live-selected : isSelected (m .blocks) (h .«nonempty_summary») (h .«retired_blocks») Live g ≡ true
+      → (holdsValue (decode h m .pages g) ≡ true) × (isRetired (decode h m) g ≡ false)
+  live-selected s =
+      let t = both (holdsValue (decode h m .pages g)) (not (isRetired (decode h m) g)) (sym (selected-decode h m ok Live g below) ∙ s) in
+      (t .0, not-true (isRetired (decode h m) g) (t .1))
+
+  pub unselected-empty : isSelected (m .blocks) (h .«nonempty_summary») (h .«retired_blocks») Live g ≡ false → isRetired (decode h m) g ≡ false
+      → decode h m .pages g .occupied ≡ 0
+  unselected-empty e r =
+      bool (holdsValue (decode h m .pages g))
+      (λ a. absurd (true≢false (sym (rw (a, r) refl) ∙ sym (selected-decode h m ok Live g below) ∙ e)))
+      (λ a. eqb-true (decode h m .pages g .occupied) 0 (not-false (eqb (decode h m .pages g .occupied) 0) a))

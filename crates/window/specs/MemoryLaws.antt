@@ -6,7 +6,7 @@ use native.Mathlib.Omega.{arith}
 use native.Mathlib.Decide.{decLe}
 use native.Mathlib.Nat.{mod-lt, one-mul, mod-eq-of-lt, sub-add-cancel}
 use borrow.Author.Tests.{leb-true, le-leb, lt-leb}
-use lib.Pow.{pow-mono, pow-lt, pow-add}
+use lib.Pow.{pow-mono, pow-lt, pow-add, mod-mod-pow}
 use lib.Bits.{bitAnd, and-mask}
 use lib.Count.{leadingZeros, leading-top}
 use Rattle.words.specs.First.{firstFrom}
@@ -94,3 +94,9 @@ position-code size sequence = let p = capacity-power size in rw (p .3) (and-mask
 
 pub position-lt : (size sequence : ℕ) → sequence % capacity size < capacity size
 position-lt size sequence = mod-lt sequence (omega (arith, capacity-ge size))
+
+-- a sequence's position in its page
+pub position-slot : (size sequence : ℕ) → sequence % capacity size % 64 ≡ sequence % 64
+position-slot size sequence =
+    let p = capacity-power size in
+    ap (λ (c : ℕ). sequence % c % 64) (p .3 ∙ ap (λ (k : ℕ). 2 ^ k) (sym (sub-add-cancel (p .1)))) ∙ mod-mod-pow sequence (p .0 - 6) 6

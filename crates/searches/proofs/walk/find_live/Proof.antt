@@ -11,22 +11,15 @@ use Rattle.pages.specs.declared.PageWords.{PageWords}
 use Rattle.pages.specs.PartLaws.{part-length}
 use Rattle.searches.specs.declared.Select.the-variants.{Live}
 use Rattle.searches.specs.Search.{isSelected}
-use Rattle.searches.proofs.Walking.{Passed, passed-begins, next-ge, next-live, passed-to, passed-page, word-is, walk-nothing, live-page, walk-cell, walk-answer}
+use Rattle.searches.specs.WalkLaws.{Passed, passed-begins, next-ge, next-selected, passed-to, passed-page}
+use Rattle.searches.proofs.Walking.{occupiedIn, word-is, walk-nothing, live-page, walk-cell, walk-answer}
 use borrow.Author.Needs.{needs}
 use Rattle.searches.proofs.walk.find_live.Statement.{statement}
 use Rattle.searches.proofs.walk.find_live.Tie as tie
-use Rattle.searches.proofs.walk.find_live.Reads as reads
-use Rattle.searches.proofs.walk.find_live.Lts as lts
-use Rattle.pages.proofs.find.slot_at.Reads as slot-at-reads
-use Rattle.pages.proofs.page_cells.Reads as page-cells-reads
-use Rattle.pages.proofs.page_words.Reads as page-words-reads
-use Rattle.searches.proofs.bits_within.Reads as bits-within-reads
-use Rattle.searches.proofs.next_live_page.Reads as next-live-page-reads
-use Rattle.words.proofs.lowest.Reads as lowest-reads
 
 abbrev Inv-loop : tie.InvT-loop
 Inv-loop sequences pages blocks start end n nonempty-summary retired-blocks stop from₀ from =
-    (from ≤ stop) × Passed pages blocks start end nonempty-summary retired-blocks from
+    (from ≤ stop) × Passed (isSelected blocks nonempty-summary retired-blocks Live) (occupiedIn pages start end) (start / 64) from
 
 abbrev μ-loop : tie.MeasureT-loop
 μ-loop sequences pages blocks start end n nonempty-summary retired-blocks stop from₀ from = stop - from
@@ -45,7 +38,7 @@ add-stop c = search needs
 
 -- src/walk.rt:38:9
 loop-holds : tie.Need-loop-holds Inv-loop μ-loop
-loop-holds c = (omega arith, passed-begins _ _ _ _ _ _)
+loop-holds c = (omega arith, passed-begins _ _ _)
 
 -- the range ends in the window
 end-le : (c : tie.At-loop Inv-loop μ-loop) → c .before .before .before .before .before .args .end ≤ capacity (c .before .before .before .before .before .args .w .«window_size»)
@@ -63,19 +56,20 @@ next-live-page-requires c κs =
 
 -- the page found
 page-ge : (c : tie.After-next-live-page Inv-loop μ-loop) → c .before .loop .from ≤ c .next-live-page .result
-page-ge c = next-ge _ _ _ _ _ _ _ _ _ (c .before .loop .inv .1) (c .before .loop .inv .0) (c .next-live-page .ensures)
+page-ge c = next-ge _ _ _ _ _ _ (c .before .loop .inv .1) (c .before .loop .inv .0) (c .next-live-page .ensures)
 
 page-lt : (c : tie.Else1 Inv-loop μ-loop) → c .before .next-live-page .result < pageCount (c .before .before .before .before .before .before .before .args .w .«window_size»)
 page-lt c = omega (arith, stop-le (c .before .before), c .if1 .left)
 
 -- nothing was found before it
 up-to : (c : tie.After-next-live-page Inv-loop μ-loop)
-    → Passed (c .before .before .before .before .before .before .args .pages .now) (c .before .before .before .before .before .before .args .blocks .now) (c .before .before .before .before .before .before .args .start) (c .before .before .before .before .before .before .args .end) (c .before .before .before .before .before .before .args .w .«nonempty_summary») (c .before .before .before .before .before .before .args .w .«retired_blocks») (c .next-live-page .result)
-up-to c = passed-to _ _ _ _ _ _ _ _ _ (c .before .loop .inv .1) (c .before .loop .inv .0) (c .next-live-page .ensures)
+    → let s = c .before .before .before .before .before .before .args in
+    Passed (isSelected (s .blocks .now) (s .w .«nonempty_summary») (s .w .«retired_blocks») Live) (occupiedIn (s .pages .now) (s .start) (s .end)) (s .start / 64) (c .next-live-page .result)
+up-to c = passed-to _ _ _ _ _ _ (c .before .loop .inv .1) (c .before .loop .inv .0) (c .next-live-page .ensures)
 
 selected : (c : tie.Else1 Inv-loop μ-loop)
-    → isSelected (c .before .before .before .before .before .before .before .args .blocks .now) (c .before .before .before .before .before .before .before .args .w .«nonempty_summary») (c .before .before .before .before .before .before .before .args .w .«retired_blocks») Live (c .before .next-live-page .result) ≡ true
-selected c = next-live _ _ _ _ _ _ _ _ _ (c .before .before .loop .inv .1) (c .before .before .loop .inv .0) (c .before .next-live-page .ensures) (c .if1 .left)
+    → let s = c .before .before .before .before .before .before .before .args in isSelected (s .blocks .now) (s .w .«nonempty_summary») (s .w .«retired_blocks») Live (c .before .next-live-page .result) ≡ true
+selected c = next-selected _ _ _ _ _ _ (c .before .before .loop .inv .1) (c .before .before .loop .inv .0) (c .before .next-live-page .ensures) (c .if1 .left)
 
 -- src/walk.rt:43:13
 page-words-requires : tie.Need-page-words-requires Inv-loop μ-loop
@@ -127,7 +121,7 @@ loop-less c = omega (arith, page-ge (c .before .before .before .before .before .
 loop-again : tie.Need-loop-again Inv-loop μ-loop
 loop-again c =
     let e = word-is _ _ _ _ _ _ (c .before .before .before .before .before .page-words .ensures) (c .before .before .bits-within .ensures) in
-    (omega (arith, c .before .before .before .before .before .before .if1 .left), passed-page _ _ _ _ _ _ _ (up-to (c .before .before .before .before .before .before .before)) (sym e ∙ c .if3 .left))
+    (omega (arith, c .before .before .before .before .before .before .if1 .left), passed-page _ _ _ _ (up-to (c .before .before .before .before .before .before .before)) (sym e ∙ c .if3 .left))
 
 -- src/walk.rt:21:1
 returns : tie.Need-returns Inv-loop μ-loop
@@ -143,8 +137,8 @@ returns-2 c =
     let s = c .before .before .before .before .before .before .before .before .before .before .args in
     record {
       gives = λ vs ok.
-          let live = live-page (s .w) (s .sequences .now) vs (s .pages .now) (s .blocks .now) (s .start) (s .end) ok (omega arith) _ (page-lt (c .before .before .before)) (selected (c .before .before .before)) in
-          absurd (live .0 (ap (λ (x : PageWords). x .kind) (sym (c .before .before .page-words .ensures)) ∙ c .if2 .taken));
+          let held = live-page (s .w) (s .sequences .now) vs (s .pages .now) (s .blocks .now) (s .start) (s .end) ok (omega arith) _ (page-lt (c .before .before .before)) (selected (c .before .before .before)) in
+          absurd (held .0 (ap (λ (x : PageWords). x .kind) (sym (c .before .before .page-words .ensures)) ∙ c .if2 .taken));
     }
 
 -- src/walk.rt:21:1
