@@ -1,0 +1,3 @@
+-- Laws over plain variables that the proofs cite.
+pub mod Releasing
+pub mod Reviving
