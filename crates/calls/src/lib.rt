@@ -1,0 +1,52 @@
+// What the calls share: an outcome with nothing returned, and whether a page's values are reachable.
+use masks::marks::page_retired;
+use pages::find::Read;
+use window::AdaptiveReceiverPacketWindow;
+use window::answers::Answer;
+use window::answers::Outcome;
+use window::answers::Step;
+use window::refusals::Refusal;
+ghost use mathlib.Core.Path.{_≡_};
+ghost use Prim.Native.Nat.{_+_, _*_, _/_, _≤_, _<_};
+ghost use lib.ListN.{length};
+ghost use Rattle.pages.specs.Contracts.{readAnswer};
+ghost use Rattle.calls.specs.Answers.{answerOf, replied, refusedBy};
+ghost use Rattle.calls.specs.Contracts.{Reachable};
+
+// The answer, the header as it is and nothing returned.
+pub fn reply(w: AdaptiveReceiverPacketWindow, answer: Answer) -> Step
+    ensures { λ r. ⌜ r ≡ replied w answer ⌝ }
+{
+    Step {
+        window: w,
+        answer: Outcome { answer, count: 0 },
+    }
+}
+
+// A refusal: the header as it is and nothing returned.
+pub fn refuse(w: AdaptiveReceiverPacketWindow, why: Refusal) -> Step
+    ensures { λ r. ⌜ r ≡ refusedBy w why ⌝ }
+{
+    reply(w, Answer::Refused(why))
+}
+
+// The answer of a call for what a page gave.
+pub fn read_answer(read: Read) -> Answer
+    ensures { λ r. ⌜ answerOf r ≡ readAnswer read ⌝ }
+{
+    match read {
+        Read::Absent => Answer::Absent,
+        Read::Value(value) => Answer::Found(value),
+    }
+}
+
+// Whether values of a page are reachable: 1 or 0. Always, unless some retired value is held.
+pub fn reachable(w: AdaptiveReceiverPacketWindow, blocks: &[u64], page: usize) -> u64
+    requires { ⌜ (page < 1024) × (3 * (page / 64) + 3 ≤ length (now blocks)) ⌝ }
+    ensures { λ r. ⌜ Reachable w (now (blocks .entry)) page r ⌝ }
+{
+    if w.retired_held == 0 {
+        return 1;
+    }
+    1 - page_retired(blocks, w.retired_blocks, page)
+}

@@ -1,0 +1,5 @@
+-- Laws over plain variables that the proofs cite.
+pub mod Reading
+pub mod Rounding
+pub mod CellWalk
+pub mod Iterating

@@ -1,0 +1,57 @@
+-- What find_round gives is the call's answer (after-step). Assumes nothing.
+use mathlib.Core.Path.{refl, _∙_}
+use native.Mathlib.Omega.{arith}
+use denote.Ref.{now}
+use lib.ListN.{length}
+use Rattle.window.specs.RefusalLaws.{Fits}
+use Rattle.window.specs.Memory.{memory}
+use Rattle.model.specs.Calls.{successor-after}
+use Rattle.calls.specs.FitLaws as FitLaws
+use Rattle.calls.specs.ReplyLaws.{short-meets, reply-meets}
+use Rattle.reads.proofs.Rounding.{after-step}
+use borrow.Author.Needs.{needs}
+use Rattle.reads.proofs.successor_after.Statement.{statement}
+use Rattle.reads.proofs.successor_after.Tie as tie
+
+fits-requires : tie.Need-fits-requires
+fits-requires c κs = search needs
+
+refuse-requires : tie.Need-refuse-requires
+refuse-requires c κs = search needs
+
+returns : tie.Need-returns
+returns c =
+    let s = c .before .before .before .before .before .before .before .args in
+    short-meets (successor-after (s .sequence)) (s .w) _ _ _ _ _ (c .before .before .fits2 .ensures) _ _ (c .before .if1 .taken) (c .refuse .ensures)
+
+-- refusal 6 does not apply
+fit : (c : tie.Else1) → let s = c .before .before .before .before .before .before .args in Fits (s .w) (length (now (s .sequences))) (length (now (s .values))) (length (now (s .pages))) (length (now (s .blocks)))
+fit c = FitLaws.fit _ _ _ _ _ _ (c .before .fits2 .ensures) (c .if1 .left)
+
+find-round-requires : tie.Need-find-round-requires
+find-round-requires c κs = let f = fit (c) in ((f .within .size-high, omega (arith, f .within .n-high)), (f .long .sequences-long, f .long .pages-long, f .long .blocks-long))
+
+found-answer-requires : tie.Need-found-answer-requires
+found-answer-requires c κs = search needs
+
+reply-requires : tie.Need-reply-requires
+reply-requires c κs = search needs
+
+returns-2 : tie.Need-returns-2
+returns-2 c =
+    let s = c .before .before .before .before .before .before .before .before .before .args in
+    reply-meets (successor-after (s .sequence)) (s .w) _ _ _ _ _ (c .before .before .before .before .fits2 .ensures) _ _ _ (c .before .before .before .if1 .left) refl refl (c .reply .ensures)
+    (after-step (s .w) (memory (now (s .sequences)) (now (s .values)) (now (s .pages)) (now (s .blocks))) (s .sequence))
+    (λ ok. c .before .found-answer .ensures ∙ c .before .before .find-round .ensures .gives (now (s .values)) ok)
+
+pub successor-after-spec : {M : Type 1} → statement M
+successor-after-spec =
+    tie.close
+    (tie.spec
+    fits-requires
+    refuse-requires
+    returns
+    find-round-requires
+    found-answer-requires
+    reply-requires
+    returns-2)

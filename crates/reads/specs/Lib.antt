@@ -1,0 +1,2 @@
+-- The reading calls: what their steps promise.
+pub mod Contracts
