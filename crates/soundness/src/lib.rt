@@ -1,0 +1,1 @@
+// Laws only: a sound window stays sound. See specs/.
