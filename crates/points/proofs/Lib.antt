@@ -1,0 +1,9 @@
+-- Laws over plain variables that the proofs cite.
+pub mod Parts
+pub mod Placing
+pub mod Exchanging
+pub mod Removing
+pub mod Keeping
+pub mod Putting
+pub mod Reviving
+pub mod Inserting

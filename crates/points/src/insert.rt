@@ -1,0 +1,210 @@
+// insert: the sequence and the value into the window. A retired page is first released whole.
+use calls::reachable;
+use calls::refuse;
+use calls::reply;
+use page_insert::InsertAnswer;
+use page_insert::Inserted;
+use pages::page_words;
+use releases::revive;
+use updates::store::store_inserted;
+use window::AdaptiveReceiverPacketWindow;
+use window::answers::Answer;
+use window::answers::Outcome;
+use window::answers::Step;
+use window::memory::position;
+use window::refusals::Refusal;
+use window::refusals::fits_with_list;
+ghost use Prim.Native.Nat.{_+_, _*_, _/_, _≤_, _<_};
+ghost use lib.Dec.{leb};
+ghost use lib.ListN.{length};
+ghost use Rattle.model.specs.Calls.{insert as insertOf};
+ghost use Rattle.model.specs.Contract.{Meets};
+ghost use Rattle.calls.specs.Answers.{stateOf, leftOf};
+ghost use Rattle.points.specs.Contracts.{Keeps, InsertsLive, RevivedAnswer, InsertsRetired};
+
+// The header after an insert into a page, and the answer.
+pub struct Put {
+    pub window: AdaptiveReceiverPacketWindow,
+    pub answer: Answer,
+}
+
+// What an insert into page `page` left, written to the lists.
+fn keep(
+    w: AdaptiveReceiverPacketWindow,
+    pages: &mut [u64],
+    blocks: &mut [u64],
+    page: usize,
+    r: Inserted,
+) -> Put
+    requires { ⌜ (page < 1024) × (3 * page + 3 ≤ length (now pages)) × (3 * (page / 64) + 3 ≤ length (now blocks)) ⌝ }
+    ensures { λ p. ⌜ Keeps w (now (pages .entry)) (now (blocks .entry)) page r p (now (pages .exit)) (now (blocks .exit)) ⌝ }
+{
+    let words = r.words;
+    let answer = r.answer;
+    match answer {
+        InsertAnswer::New => Put {
+            window: store_inserted(w, pages, blocks, page, words, false),
+            answer: Answer::New,
+        },
+        InsertAnswer::Promoted => Put {
+            window: store_inserted(w, pages, blocks, page, words, true),
+            answer: Answer::New,
+        },
+        InsertAnswer::Replaced(old) => Put {
+            window: w,
+            answer: Answer::Replaced(old),
+        },
+        InsertAnswer::Occupied => Put {
+            window: w,
+            answer: Answer::Refused(Refusal::Occupied),
+        },
+        InsertAnswer::Unsound => Put {
+            window: w,
+            answer: Answer::Refused(Refusal::Unsound),
+        },
+    }
+}
+
+// The sequence and the value into page `page`, which is live.
+fn insert_live(
+    w: AdaptiveReceiverPacketWindow,
+    sequences: &mut [u32],
+    values: &mut [u32],
+    pages: &mut [u64],
+    blocks: &mut [u64],
+    page: usize,
+    n: usize,
+    sequence: u32,
+    value: u32,
+) -> Put
+    requires { ⌜ (page < 1024) × (64 * page + 64 ≤ length (now sequences)) × (64 * page + 64 ≤ length (now values)) × (3 * page + 3 ≤ length (now pages)) ⌝ }
+    requires { ⌜ (3 * (page / 64) + 3 ≤ length (now blocks)) × (0 < n) × (n < 64) ⌝ }
+    ensures { λ p. ⌜ InsertsLive w (now (sequences .entry)) (now (values .entry)) (now (pages .entry)) (now (blocks .entry)) page n sequence value p (now (sequences .exit)) (now (values .exit)) (now (pages .exit)) (now (blocks .exit)) ⌝ }
+{
+    let words = page_words(pages, page);
+    let from = 64 * page;
+    let to = from + 64;
+    let r = page_insert::insert(
+        &mut sequences[from..to],
+        &mut values[from..to],
+        words,
+        n,
+        sequence,
+        value,
+    );
+    keep(w, pages, blocks, page, r)
+}
+
+// The answer of an insert into a revived page, which is empty on a sound state: a refusal there means that it was not.
+fn revived_answer(answer: Answer) -> Answer
+    ensures { λ r. ⌜ RevivedAnswer answer r ⌝ }
+{
+    if let Answer::Refused(why) = answer {
+        return Answer::Refused(Refusal::Unsound);
+    }
+    answer
+}
+
+// The same into a page that is retired.
+fn insert_retired(
+    w: AdaptiveReceiverPacketWindow,
+    sequences: &mut [u32],
+    values: &mut [u32],
+    pages: &mut [u64],
+    blocks: &mut [u64],
+    returned: &mut [u32],
+    page: usize,
+    n: usize,
+    sequence: u32,
+    value: u32,
+) -> Step
+    requires { ⌜ (page < 1024) × (64 * page + 64 ≤ length (now sequences)) × (64 * page + 64 ≤ length (now values)) × (3 * page + 3 ≤ length (now pages)) ⌝ }
+    requires { ⌜ (3 * (page / 64) + 3 ≤ length (now blocks)) × (0 < n) × (n < 64) × (64 ≤ length (now returned)) ⌝ }
+    ensures { λ r. ⌜ InsertsRetired w (now (sequences .entry)) (now (values .entry)) (now (pages .entry)) (now (blocks .entry)) page n sequence value (now (returned .entry)) r (now (sequences .exit)) (now (values .exit)) (now (pages .exit)) (now (blocks .exit)) (now (returned .exit)) ⌝ }
+{
+    let revived = revive(w, sequences, values, pages, blocks, returned, page, n);
+    let window = revived.window;
+    let count = revived.count as u32;
+    if !revived.sound {
+        return Step {
+            window,
+            answer: Outcome {
+                answer: Answer::Refused(Refusal::Unsound),
+                count,
+            },
+        };
+    }
+    let put = insert_live(
+        window,
+        sequences,
+        values,
+        pages,
+        blocks,
+        page,
+        n,
+        sequence,
+        value,
+    );
+    let left = put.window;
+    let given = put.answer;
+    let answer = revived_answer(given);
+    Step {
+        window: left,
+        answer: Outcome { answer, count },
+    }
+}
+
+pub fn insert(
+    w: AdaptiveReceiverPacketWindow,
+    sequences: &mut [u32],
+    values: &mut [u32],
+    pages: &mut [u64],
+    blocks: &mut [u64],
+    returned: &mut [u32],
+    sequence: u32,
+    value: u32,
+) -> Step
+    ensures { λ r. ⌜ Meets (insertOf sequence value (leb 384 (length (now (returned .entry))))) (stateOf w (now (sequences .entry)) (now (values .entry)) (now (pages .entry)) (now (blocks .entry))) (now (returned .entry))
+        (leftOf r (now (sequences .exit)) (now (values .exit)) (now (pages .exit)) (now (blocks .exit)) (now (returned .exit))) ⌝ }
+{
+    if !fits_with_list(
+        w,
+        sequences.len(),
+        values.len(),
+        pages.len(),
+        blocks.len(),
+        returned.len(),
+    ) {
+        return refuse(w, Refusal::ShortMemory);
+    }
+    let n = w.n as usize;
+    let page = position(w.window_size, sequence) / 64;
+    if reachable(w, blocks, page) == 0 {
+        return insert_retired(
+            w,
+            sequences,
+            values,
+            pages,
+            blocks,
+            returned,
+            page,
+            n,
+            sequence,
+            value,
+        );
+    }
+    let put = insert_live(
+        w,
+        sequences,
+        values,
+        pages,
+        blocks,
+        page,
+        n,
+        sequence,
+        value,
+    );
+    let window = put.window;
+    let answer = put.answer;
+    reply(window, answer)
+}
