@@ -1,0 +1,114 @@
+-- No call on a window is answered by refusal 7. Assumes nothing.
+use mathlib.Core.Path.{_≡_, refl, sym, ap, _∙_}
+use mathlib.Core.Bool.{Bool, true, false, cond, true≢false, _&&_}
+use mathlib.Core.Option.{Option, none, some}
+use mathlib.Core.List.{[]}
+use Prim.Native.Nat.{ℕ, _+_, _-_, _%_}
+use lib.Dec.{eqb, leb, ltb}
+use Rattle.words.specs.Cases.{bool}
+use Rattle.words.specs.First.{firstFrom, firstRound}
+use Rattle.window.specs.Memory.{position}
+use Rattle.model.specs.Calls.{Call, insert, get, exchange, remove, successor-after, first-from, remove-range, clear, clear-bounded, release-retired, iter, stranger, check, Answer, done, new, replaced, absent, found, pair, released, refused}
+use Rattle.model.specs.Table.{Pair, Table, holds, valueIf, rangeCount, covers, sequenceOf, searchFrom}
+use Rattle.model.specs.Window.{Page, Window, sizeOf, capacityOf, cellOf, liveAt, isReached, cellPair, iterStep}
+use Rattle.model.specs.Pages.{valuesIn, insertPage}
+use Rattle.model.specs.Steps.{Effect, effect, pageOf, liveHere, revive, isStranger, pairAnswer, strangerIn, insertStep, exchangeStep, removeStep, rangeStep, clearStep, clearBoundedStep, releaseStep, windowStep}
+
+abbrev pub isSeven : Answer → Bool
+isSeven done = false
+isSeven new = false
+isSeven (replaced v) = false
+isSeven absent = false
+isSeven (found n) = false
+isSeven (pair s v next) = false
+isSeven (released values units) = false
+isSeven (refused k) = eqb k 7
+
+pub not-refused-7 : (a : Answer) → isSeven a ≡ false → a ≡ refused 7 → ⊥
+not-refused-7 a n e = true≢false (ap isSeven (sym e) ∙ n)
+
+-- one of two answers, neither of them 7
+neither : (a b : Answer) (t : Bool) → isSeven a ≡ false → isSeven b ≡ false → isSeven (cond t a b) ≡ false
+neither a b true x y = x
+neither a b false x y = y
+
+neither-effect : (a b : Effect) (t : Bool) → isSeven (a .answer) ≡ false → isSeven (b .answer) ≡ false → isSeven (cond t a b .answer) ≡ false
+neither-effect a b true x y = x
+neither-effect a b false x y = y
+
+value-answer : (s : ℕ) (o : Option Pair) → isSeven (valueIf s o) ≡ false
+value-answer s none = refl
+value-answer s (some e) = neither (found (e .value)) absent (eqb (e .sequence) s) refl refl
+
+sequence-answer : (o : Option Pair) → isSeven (sequenceOf o) ≡ false
+sequence-answer none = refl
+sequence-answer (some e) = refl
+
+pair-answer : (o : Option Pair) → isSeven (pairAnswer o) ≡ false
+pair-answer none = refl
+pair-answer (some e) = refl
+
+search-answer : (cap : ℕ) (t : Table) (p : ℕ) → isSeven (searchFrom cap t p) ≡ false
+unfolding searchFrom
+search-answer cap t p =
+    let q = firstRound (λ (r : ℕ). holds (t r)) cap p in
+    neither (sequenceOf (t q)) absent (ltb q cap) (sequence-answer (t q)) refl
+
+page-answer : (n : ℕ) (p : Page) (s v : ℕ) → isSeven (insertPage n p s v .answer) ≡ false
+unfolding insertPage
+page-answer n p s v =
+    let c = cellOf p (s % 64) in
+    bool (ltb c 64)
+    (λ e. bool (eqb (p .sequences c) s) (λ f. rw (e, f)) (λ f. rw (e, f)))
+    (λ e. bool (eqb (p .kind) 2) (λ f. rw (e, f)) (λ f. bool (ltb (valuesIn p) n) (λ k. rw (e, f, k)) (λ k. rw (e, f, k))))
+
+module _ (w : Window) where
+  insert-answer : (s v : ℕ) → isSeven (insertStep w s v .answer) ≡ false
+  unfolding insertStep
+  insert-answer s v = page-answer (w .header .n) (revive w (pageOf w s) .after .pages (pageOf w s)) s v
+
+  exchange-answer : (s v : ℕ) → isSeven (exchangeStep w s v .answer) ≡ false
+  unfolding exchangeStep
+  exchange-answer s v = value-answer s (liveHere w s)
+
+  remove-answer : (s : ℕ) → isSeven (removeStep w s .answer) ≡ false
+  unfolding removeStep
+  remove-answer s = value-answer s (liveHere w s)
+
+  iter-answer : (cell : ℕ) → isSeven (iterStep w cell) ≡ false
+  unfolding iterStep
+  iter-answer cell =
+      let c = firstFrom (isReached w) (capacityOf w - cell) cell in
+      neither (pair (cellPair w c .sequence) (cellPair w c .value) (c + 1)) done (ltb c (capacityOf w)) refl refl
+
+  stranger-answer : (a b : ℕ) → isSeven (strangerIn w a b) ≡ false
+  unfolding strangerIn
+  stranger-answer a b =
+      let start = position (sizeOf w) a in
+      let n = rangeCount a b in
+      let q = firstRound (λ (r : ℕ). covers (capacityOf w) start n r && isStranger a n (liveAt w r)) (capacityOf w) start in
+      neither (pairAnswer (liveAt w q)) absent (ltb q (capacityOf w)) (pair-answer (liveAt w q)) refl
+
+  -- no call gives 7 on a window
+  answer-not-7 : (c : Call) → isSeven (windowStep w c .answer) ≡ false
+  unfolding windowStep rangeStep clearStep clearBoundedStep releaseStep
+  answer-not-7 (insert s v listed) = neither-effect (insertStep w s v) (effect w (refused 6) []) listed (insert-answer s v) refl
+  answer-not-7 (get s) = value-answer s (liveHere w s)
+  answer-not-7 (exchange s v) = exchange-answer s v
+  answer-not-7 (remove s) = remove-answer s
+  answer-not-7 (successor-after s) = search-answer (capacityOf w) (liveAt w) (position (sizeOf w) (s + 1))
+  answer-not-7 (first-from s) = search-answer (capacityOf w) (liveAt w) (position (sizeOf w) s)
+  answer-not-7 (remove-range a b true) = bool (leb (rangeCount a b) (sizeOf w)) (λ e. rw e) (λ e. rw e)
+  answer-not-7 (remove-range a b false) = refl
+  answer-not-7 (clear true) = refl
+  answer-not-7 (clear false) = refl
+  answer-not-7 (clear-bounded n true) = bool (leb n 256) (λ e. rw e) (λ e. rw e)
+  answer-not-7 (clear-bounded n false) = refl
+  answer-not-7 (release-retired b true) = bool (leb b 256) (λ e. rw e) (λ e. rw e)
+  answer-not-7 (release-retired b false) = refl
+  answer-not-7 (iter cell) = iter-answer cell
+  answer-not-7 (stranger a b) = bool (leb (rangeCount a b) (sizeOf w)) (λ e. rw e (stranger-answer a b)) (λ e. rw e)
+  answer-not-7 check = refl
+
+  pub never-7 : (c : Call) → windowStep w c .answer ≡ refused 7 → ⊥
+  never-7 c = not-refused-7 (windowStep w c .answer) (answer-not-7 c)

@@ -1,0 +1,214 @@
+-- Each call that retires nothing does to a sound window what `step` does at its positions. Assumes nothing.
+use mathlib.Core.Path.{_≡_, refl, sym, ap, _∙_}
+use mathlib.Core.Bool.{Bool, true, false, cond, true≢false}
+use mathlib.Core.Option.{Option, none, some}
+use Prim.Native.Nat.{ℕ, _/_, _%_}
+use native.Mathlib.Omega.{arith}
+use native.Mathlib.Decide.{ℕ-discrete}
+use lib.Dec.{leb}
+use borrow.Author.Tests.{eq-eqb, ne-eqb}
+use Rattle.words.specs.Cases.{bool}
+use Rattle.window.specs.Memory.{position}
+use Rattle.window.specs.MemoryLaws.{position-slot}
+use Rattle.model.specs.Calls.{Call, insert, get, exchange, remove, successor-after, first-from, remove-range, clear, clear-bounded, release-retired, iter, stranger, check}
+use Rattle.model.specs.Table.{Pair, Table, at, putAt, putAnswer, exchangeAt, removeAt, rangeCount}
+use Rattle.model.specs.Window.{Page, Window, sizeOf, pagesOf, cellOf, standsAt, isRetired, liveAt, retiredAt}
+use Rattle.model.specs.Pages.{setValue, takeCell, afterRemoval, demotes, insertPage, Inserted}
+use Rattle.model.specs.Positions.{Positions, positions, step}
+use Rattle.model.specs.Steps.{withPage, noteNonempty, putPage, addLive, subLive, countPromotion, countDemotion, revive, finds, isNew, insertStep, exchangeStep, removeStep, windowStep}
+use Rattle.model.specs.Sound.{Sound}
+use Rattle.pages.specs.Page.{Placed}
+use Rattle.pages.specs.Contracts.{exchanged}
+use Rattle.pages.specs.PlaceLaws.{placed}
+use Rattle.pages.specs.ExchangeLaws.{exchange-stands}
+use Rattle.page_insert.specs.InsertLaws.{Leaves, insert-leaves}
+use Rattle.page_remove.specs.Remove.{RemovedPage}
+use Rattle.page_remove.specs.RemoveLaws.{remove-when-found, remove-stands}
+use Rattle.soundness.specs.Change.{NothingPast, isPoint}
+use Rattle.soundness.specs.ExchangeRemoveLaws.{page-lt}
+use Rattle.refinement.specs.Seen.{positionsOf, Follows}
+use Rattle.refinement.specs.SeenLaws.{view-seen, view-then, note-view, add-view, sub-view, promotion-view, demotion-view, live-here, point-seen}
+use Rattle.refinement.specs.ReleaseLaws.{Releases, revive-page, revived-live}
+
+-- ---- one position of the live table replaced, if the sequence is found there
+
+at-own : (t : Table) (x q : ℕ) → at t x (t x) q ≡ t q
+at-own t x q = elim (ℕ-discrete q x) [ yes e ↦ rw (eq-eqb q x e) (ap t (sym e)) | no e ↦ rw (ne-eqb q x e) ]
+
+abbrev pointed : Positions → ℕ → (Option Pair → Option Pair) → Positions
+pointed z x f = positions (at (z .live) x (f (z .live x))) (z .retired) (z .cursor)
+
+-- v if the sequence was found, else w
+if-found : (w v : Window) (x : ℕ) (f : Option Pair → Option Pair) (b : Bool) → (b ≡ true → positionsOf v ≡ pointed (positionsOf w) x f)
+    → (b ≡ false → f (liveAt w x) ≡ liveAt w x) → positionsOf (cond b v w) ≡ pointed (positionsOf w) x f
+if-found w v x f true g h = g refl
+if-found w v x f false g h = λ i. record { live = λ q. same q i; retired = retiredAt w; cursor = w .header .«release_cursor» }
+  where
+    same : (q : ℕ) → liveAt w q ≡ at (liveAt w) x (f (liveAt w x)) q
+    same q = sym (ap (λ (o : Option Pair). at (liveAt w) x o q) (h refl) ∙ at-own (liveAt w) x q)
+
+exchange-absent : (s v : ℕ) (o : Option Pair) → finds s o ≡ false → exchangeAt s v o ≡ o
+exchange-absent s v none e = refl
+exchange-absent s v (some x) e = rw e
+
+remove-absent : (s : ℕ) (o : Option Pair) → finds s o ≡ false → removeAt s o ≡ o
+remove-absent s none e = refl
+remove-absent s (some x) e = rw e
+
+module _ (w : Window) (s : ℕ) where
+  -- the position of the sequence, and its page
+  abbrev x : ℕ
+  x = position (sizeOf w) s
+
+  abbrev p : Page
+  p = w .pages (x / 64)
+
+  -- where a live pair is found, its page is live
+  found-live : finds s (liveAt w x) ≡ true → (isRetired w (x / 64) ≡ false) × (finds s (standsAt p (s % 64)) ≡ true)
+  found-live t =
+      bool (isRetired w (x / 64))
+      (λ r. absurd (true≢false (sym (rw r at t))))
+      (λ r. (r, ap (λ (j : ℕ). finds s (standsAt p j)) (sym (position-slot (sizeOf w) s)) ∙ ap (finds s) (sym (live-here w (x / 64) x refl r)) ∙ t))
+
+  module _ (ok : Sound w) where
+    in-place : Placed (w .header .n) p
+    in-place = placed _ _ (x / 64) p (ok .page (x / 64) (page-lt w s))
+
+    exchange-page : (v : ℕ) → finds s (liveAt w x) ≡ true
+        → positionsOf (withPage w (x / 64) (setValue p (cellOf p (s % 64)) v)) ≡ pointed (positionsOf w) x (exchangeAt s v)
+    unfolding exchanged
+    exchange-page v t =
+        let f = found-live t in
+        point-seen w x (setValue p (cellOf p (s % 64)) v) (exchangeAt s v) (f .0)
+        (λ j l. rw (position-slot (sizeOf w) s) (rw (f .1) at (exchange-stands (w .header .n) p in-place v s j l)))
+
+    pub exchange-follows : (v : ℕ) → Follows w (exchange s v)
+    unfolding step windowStep exchangeStep
+    exchange-follows v = record {
+      after = if-found w _ x (exchangeAt s v) (finds s (liveAt w x)) (exchange-page v) (exchange-absent s v (liveAt w x));
+      answer = λ h. refl;
+      returned = refl;
+    }
+
+    -- the page without the value
+    abbrev rest : Page
+    rest = takeCell p (cellOf p (s % 64))
+
+    abbrev d : ℕ
+    d = w .header .«demote_at»
+
+    removed-page : finds s (liveAt w x) ≡ true
+        → positionsOf (countDemotion (putPage (subLive w (x / 64 / 64) 1) (x / 64) (afterRemoval d rest)) (demotes d rest)) ≡ pointed (positionsOf w) x (removeAt s)
+    removed-page t =
+        let f = found-live t in
+        let a = withPage w (x / 64) (afterRemoval d rest) in
+        let b = subLive a (x / 64 / 64) 1 in
+        let c = noteNonempty b (x / 64) in
+        let e = countDemotion c (demotes d rest) in
+        view-seen a e (view-then a c (view-then a b (sub-view a (x / 64 / 64) 1) c (note-view b (x / 64))) e (demotion-view c (demotes d rest)))
+        ∙ point-seen w x (afterRemoval d rest) (removeAt s) (f .0)
+        (λ j l. rw (position-slot (sizeOf w) s)
+        (ap (λ (r : RemovedPage). standsAt (r .page) j) (sym (remove-when-found p s d (f .1))) ∙ remove-stands (w .header .n) p in-place s d j l))
+
+    pub remove-follows : Follows w (remove s)
+    unfolding step windowStep removeStep
+    remove-follows = record {
+      after = if-found w _ x (removeAt s) (finds s (liveAt w x)) removed-page (remove-absent s (liveAt w x));
+      answer = λ h. refl;
+      returned = refl;
+    }
+
+    -- ---- insert: into the page revived
+
+    module _ (past : NothingPast w) (v : ℕ) where
+      -- the window with the page revived, and what the insert leaves of the page
+      abbrev u : Window
+      u = revive w (x / 64) .after
+
+      abbrev i : Inserted
+      i = insertPage (w .header .n) (u .pages (x / 64)) s v
+
+      revived : Releases (w .header .n) (pagesOf w) (positionsOf w) (x / 64) 64 (revive w (x / 64))
+      revived = revive-page w (x / 64) ok past (page-lt w s)
+
+      leaves : Leaves (w .header .n) (u .pages (x / 64)) s v i
+      leaves = insert-leaves (w .header .n) (u .pages (x / 64)) s v (revived .order .places (x / 64)) (omega (arith, ok .within .n-high))
+
+      live : isRetired u (x / 64) ≡ false
+      live = revived-live w (x / 64) ok past (page-lt w s)
+
+      put : positionsOf (withPage u (x / 64) (i .page)) ≡ pointed (positionsOf u) x (putAt s v)
+      put = point-seen u x (i .page) (putAt s v) live (λ j l. rw (position-slot (sizeOf w) s) (leaves .stands j l))
+
+      -- a new value is noted and counted
+      put-new : positionsOf (addLive (countPromotion (putPage u (x / 64) (i .page)) (i .promotes)) (x / 64 / 64) 1) ≡ pointed (positionsOf u) x (putAt s v)
+      put-new =
+          let a = withPage u (x / 64) (i .page) in
+          let b = noteNonempty a (x / 64) in
+          let c = countPromotion b (i .promotes) in
+          let e = addLive c (x / 64 / 64) 1 in
+          view-seen a e (view-then a c (view-then a b (note-view a (x / 64)) c (promotion-view b (i .promotes))) e (add-view c (x / 64 / 64) 1)) ∙ put
+
+      -- the window after the insert
+      put-either : (b : Bool) → positionsOf (cond b (addLive (countPromotion (putPage u (x / 64) (i .page)) (i .promotes)) (x / 64 / 64) 1) (withPage u (x / 64) (i .page))) ≡ pointed (positionsOf u) x (putAt s v)
+      put-either true = put-new
+      put-either false = put
+
+      stood : liveAt w x ≡ standsAt (u .pages (x / 64)) (s % 64)
+      stood =
+          sym (ap (λ (z : Positions). z .live x) (revived .after))
+          ∙ live-here u (x / 64) x refl live
+          ∙ ap (standsAt (u .pages (x / 64))) (position-slot (sizeOf w) s)
+
+      pub insert-follows : (listed : Bool) → Follows w (insert s v listed)
+      unfolding step windowStep insertStep
+      insert-follows true = record {
+        after = put-either (isNew (i .answer)) ∙ ap (λ (z : Positions). pointed z x (putAt s v)) (revived .after);
+        answer = λ h. ap some (ap (putAnswer s) stood ∙ sym (leaves .answer));
+        returned = revived .out;
+      }
+      insert-follows false = record { after = refl; answer = λ h. refl; returned = refl }
+
+-- ---- calls that change nothing
+
+module _ (w : Window) where
+  pub get-follows : (s : ℕ) → Follows w (get s)
+  unfolding step windowStep
+  get-follows s = record { after = refl; answer = λ h. refl; returned = refl }
+
+  pub successor-follows : (s : ℕ) → Follows w (successor-after s)
+  unfolding step windowStep
+  successor-follows s = record { after = refl; answer = λ h. refl; returned = refl }
+
+  pub first-follows : (s : ℕ) → Follows w (first-from s)
+  unfolding step windowStep
+  first-follows s = record { after = refl; answer = λ h. refl; returned = refl }
+
+  pub iter-follows : (cell : ℕ) → Follows w (iter cell)
+  unfolding step windowStep
+  iter-follows cell = record { after = refl; answer = λ h. absurd (true≢false (sym h)); returned = refl }
+
+  pub stranger-follows : (a b : ℕ) → Follows w (stranger a b)
+  unfolding step windowStep
+  stranger-follows a b = bool (leb (rangeCount a b) (sizeOf w))
+      (λ t. record { after = rw t; answer = λ h. absurd (true≢false (sym h)); returned = rw t })
+      (λ t. record { after = rw t; answer = λ h. absurd (true≢false (sym h)); returned = rw t })
+
+  pub check-follows : Follows w check
+  unfolding step windowStep
+  check-follows = record { after = refl; answer = λ h. absurd (true≢false (sym h)); returned = refl }
+
+pub point-follows : (w : Window) → Sound w → NothingPast w → (c : Call) → isPoint c ≡ true → Follows w c
+point-follows w ok past (insert s v listed) e = insert-follows w s ok past v listed
+point-follows w ok past (get s) e = get-follows w s
+point-follows w ok past (exchange s v) e = exchange-follows w s ok v
+point-follows w ok past (remove s) e = remove-follows w s ok
+point-follows w ok past (successor-after s) e = successor-follows w s
+point-follows w ok past (first-from s) e = first-follows w s
+point-follows w ok past (remove-range a b listed) e = absurd (true≢false (sym e))
+point-follows w ok past (clear listed) e = absurd (true≢false (sym e))
+point-follows w ok past (clear-bounded n listed) e = absurd (true≢false (sym e))
+point-follows w ok past (release-retired b listed) e = absurd (true≢false (sym e))
+point-follows w ok past (iter cell) e = iter-follows w cell
+point-follows w ok past (stranger a b) e = stranger-follows w a b
+point-follows w ok past check e = check-follows w
