@@ -1,4 +1,6 @@
--- Laws for the proofs of this crate: intervals of numbers (Interval), a field's digits (FieldLaws), a line's parts (LineLaws).
+-- Laws for the proofs of this crate: intervals of numbers (Interval), a field's digits (FieldLaws), a line's parts (LineLaws), the loop over
+-- a line's fields (LoopLaws).
 pub mod Interval
 pub mod FieldLaws
 pub mod LineLaws
+pub mod LoopLaws

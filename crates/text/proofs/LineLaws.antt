@@ -135,8 +135,9 @@ unfolding restOf lineOf
 letter-first b [] e = letter-only b e
 letter-first b (c ∷ bs) e =
     elim (ℕ-discrete c 9) [
-      yes q ↦ rw (parts-other b (c ∷ bs) e, parts-tab c bs q, at-tab c bs q) (ap (counted b (fieldCount b)) (prefixed-none (numbers (parts bs)))) |
-      no q ↦ rw (parts-other b (c ∷ bs) e, parts-other c bs q, at-other c bs q) (counted-none b (fieldCount b) ∙ sym (joined-long b c (parts bs))) ]
+      | yes q ↦ rw (parts-other b (c ∷ bs) e, parts-tab c bs q, at-tab c bs q) (ap (counted b (fieldCount b)) (prefixed-none (numbers (parts bs))))
+      | no q ↦ rw (parts-other b (c ∷ bs) e, parts-other c bs q, at-other c bs q) (counted-none b (fieldCount b) ∙ sym (joined-long b c (parts bs)))
+    ]
 
 pub begins : (bs : List ℕ) → 0 < length bs → restOf (getD bs 0 0) [] (drop 1 bs) ≡ lineOf bs
 begins [] l = absurd (omega arith)
@@ -176,8 +177,9 @@ parts-some : (bs : List ℕ) → 0 < length (parts bs)
 parts-some [] = no-bytes
 parts-some (b ∷ bs) =
     elim (ℕ-discrete b 9) [
-      yes e ↦ rw (parts-tab b bs e) (omega arith) |
-      no e ↦ rw (parts-other b bs e) (joined-some b (parts bs)) ]
+      | yes e ↦ rw (parts-tab b bs e) (omega arith)
+      | no e ↦ rw (parts-other b bs e) (joined-some b (parts bs))
+    ]
 
 more-fields : (b : ℕ) (ns bs : List ℕ) → length ns ≡ fieldCountOf b → counted b (fieldCount b) (prefixed ns (numbers (parts bs))) ≡ none
 more-fields b ns bs h = some-part b ns (parts bs) (parts-some bs) h
@@ -196,8 +198,9 @@ module _ (b : ℕ) (ns bs : List ℕ) (a : ℕ) where
   unfolding restOf
   too-long l h =
       elim (ℕ-discrete (getD bs a 0) 9) [
-        yes e ↦ rw (drop-cons bs a 0 l, at-tab (getD bs a 0) (drop (suc a) bs) e) (more-fields b ns (drop (suc a) bs) h) |
-        no e ↦ no-tab l e ]
+        | yes e ↦ rw (drop-cons bs a 0 l, at-tab (getD bs a 0) (drop (suc a) bs) e) (more-fields b ns (drop (suc a) bs) h)
+        | no e ↦ no-tab l e
+      ]
 
   pub whole : length bs ≤ a → fieldCountOf b ≤ 3 → length ns ≡ fieldCountOf b → restOf b ns (drop a bs) ≡ some (line b ns)
   unfolding restOf fieldsAfter
@@ -212,12 +215,12 @@ module _ (bs : List ℕ) (a e : ℕ) (l : a < length bs) (t : getD bs a 0 ≡ 9)
       ap fieldsAfter (drop-cons bs a 0 l) ∙ at-tab (getD bs a 0) (drop (suc a) bs) t
       ∙ ap (λ (m : ℕ). numbers (parts (drop m bs))) (sym (add-one a))
       ∙ first-field (drop (a + 1) bs) (e - (a + 1))
-        (rw (length-drop (a + 1) bs) (omega (arith, n .le-length)))
-        (λ j h. rw (getD-drop (a + 1) bs j 0) (n .before (a + 1 + j) (omega arith) (omega arith)))
-        (λ h. rw (getD-drop (a + 1) bs (e - (a + 1)) 0, k) (n .found (omega (arith, length-drop (a + 1) bs))))
+      (rw (length-drop (a + 1) bs) (omega (arith, n .le-length)))
+      (λ j h. rw (getD-drop (a + 1) bs j 0) (n .before (a + 1 + j) (omega arith) (omega arith)))
+      (λ h. rw (getD-drop (a + 1) bs (e - (a + 1)) 0, k) (n .found (omega (arith, length-drop (a + 1) bs))))
       ∙ ap (λ (r : List ℕ). both (fieldOf (take (e - (a + 1)) (drop (a + 1) bs))) (numbers (after r))) d
       ∙ ap (both (fieldOf (take (e - (a + 1)) (drop (a + 1) bs))))
-        (fields-after (drop e bs) (λ h. rw (getD-drop e bs 0 0, add-zero e) (n .found (omega (arith, length-drop e bs)))))
+      (fields-after (drop e bs) (λ h. rw (getD-drop e bs 0 0, add-zero e) (n .found (omega (arith, length-drop e bs)))))
 
   pub bad-field : (b : ℕ) (ns : List ℕ) → none ≡ fieldOf (take (e - (a + 1)) (drop (a + 1) bs)) → restOf b ns (drop a bs) ≡ none
   unfolding restOf
