@@ -7,11 +7,11 @@ use Prim.Native.Nat.{ℕ, _+_, _*_, _-_, _≤_, _<_}
 use native.Mathlib.Nat.{le-refl}
 use native.Mathlib.Numerals.{add-one}
 use native.Mathlib.Omega.{arith}
-use lib.Dec.{leb, eqb}
+use lib.Dec.{leb}
 use lib.ListN.{length, getD, drop}
 use lib.Seq.{drop-cons, drop-length}
 use borrow.Author.Tests.{le-leb, lt-leb, eq-eqb, ne-eqb}
-use Rattle.text.specs.Fields.{isDigit, allDigits, numberFrom, isPlain, fieldOf}
+use Rattle.text.specs.Fields.{allDigits, numberFrom, fieldOf}
 
 -- the answer of the bytes after digits that wrote n
 unfoldable pub restOf : ℕ → List ℕ → Option ℕ
