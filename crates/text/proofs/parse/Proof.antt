@@ -37,7 +37,7 @@ loop-holds c = laws.start (c .before .before .before .before .before .args .line
 
 -- src/lib.rt:113:13
 returns-3 : tie.Need-returns-3 Inv-loop μ-loop
-returns-3 c = laws.too-few (c .before .before .before .before .before .before .before .before .args .line .now) _ _ _ _ _ (c .before .before .loop .inv) (c .before .loop-test .taken) (c .if3 .taken)
+returns-3 c = laws.too-few _ _ _ _ _ _ (c .before .before .loop .inv) (c .before .loop-test .taken) (c .if3 .taken)
 
 -- src/lib.rt:115:12
 shared-slice-read-if4 : tie.Need-shared-slice-read-if4 Inv-loop μ-loop
@@ -45,7 +45,7 @@ shared-slice-read-if4 c = search needs
 
 -- src/lib.rt:116:13
 returns-4 : tie.Need-returns-4 Inv-loop μ-loop
-returns-4 c = laws.another (c .before .before .before .before .before .before .before .before .before .before .args .line .now) _ _ _ _ _ (c .before .before .before .before .loop .inv) (c .before .before .if3 .left) (c .if4 .taken)
+returns-4 c = laws.another _ _ _ _ _ _ (c .before .before .before .before .loop .inv) (c .before .before .if3 .left) (c .if4 .taken)
 
 -- src/lib.rt:118:20
 add-from : tie.Need-add-from Inv-loop μ-loop
@@ -82,7 +82,8 @@ enum-told c = search needs
 -- src/lib.rt:122:13
 returns-5 : tie.Need-returns-5 Inv-loop μ-loop
 returns-5 c =
-    laws.not-field (c .before .before .before .before .before .before .before .before .before .before .before .before .before .before .before .args .line .now) _ _ _ _ _ (c .before .before .before .before .before .before .before .before .before .loop .inv) (c .before .before .before .before .next-tab .result) (c .before .before .before .before .before .before .before .if3 .left) (c .before .before .before .before .before .if4 .left) (c .before .before .before .before .next-tab .ensures)
+    let t : tie.After-next-tab Inv-loop μ-loop = c .before .before .before .before in
+    laws.not-field _ _ _ _ _ _ (t .before .before .before .before .before .loop .inv) _ (t .before .before .before .if3 .left) (t .before .if4 .left) (t .next-tab .ensures)
     (sym (ap fieldAnswer (c .enum-told .given .1)) ∙ c .before .before .field .ensures)
 
 -- src/lib.rt:124:9
@@ -104,12 +105,13 @@ loop-less c = search needs
 -- src/lib.rt:111:5
 loop-again : tie.Need-loop-again Inv-loop μ-loop
 loop-again c =
-    laws.turn (c .before .before .before .before .before .before .before .before .before .before .before .before .before .before .before .before .args .line .now) _ _ _ _ _ (c .before .before .before .before .before .before .before .before .before .before .loop .inv) (c .before .before .before .before .before .next-tab .result) (c .before .read .given .0 .0) (c .before .before .before .before .before .before .before .before .before .loop-test .taken) (c .before .before .before .before .before .before .before .before .if3 .left) (c .before .before .before .before .before .before .if4 .left)
-    (c .before .before .before .before .before .next-tab .ensures) (sym (ap fieldAnswer (c .before .read .given .1)) ∙ c .before .before .before .field .ensures)
+    let t : tie.After-next-tab Inv-loop μ-loop = c .before .before .before .before .before in
+    laws.turn _ _ _ _ _ _ (t .before .before .before .before .before .loop .inv) _ _ (t .before .before .before .before .loop-test .taken) (t .before .before .before .if3 .left) (t .before .if4 .left) (t .next-tab .ensures)
+    (sym (ap fieldAnswer (c .before .read .given .1)) ∙ c .before .before .before .field .ensures)
 
 -- src/lib.rt:129:9
 returns-6 : tie.Need-returns-6 Inv-loop μ-loop
-returns-6 c = laws.too-many (c .before .before .before .before .before .before .before .before .args .line .now) _ _ _ _ _ (c .before .before .loop .inv) (c .before .loop-test .left) (c .if5 .taken)
+returns-6 c = laws.too-many _ _ _ _ _ _ (c .before .before .loop .inv) (c .before .loop-test .left) (c .if5 .taken)
 
 -- src/lib.rt:133:16
 array-read-t26 : tie.Need-array-read-t26 Inv-loop μ-loop
@@ -125,7 +127,7 @@ array-read-t32 c = search needs
 
 -- src/lib.rt:97:1
 returns-7 : tie.Need-returns-7 Inv-loop μ-loop
-returns-7 c = laws.says (c .before .before .before .before .before .before .before .before .args .line .now) _ _ _ _ _ (c .before .before .loop .inv) (c .before .loop-test .left) (c .if5 .left)
+returns-7 c = laws.says _ _ _ _ _ _ (c .before .before .loop .inv) (c .before .loop-test .left) (c .if5 .left)
 
 pub parse-spec : {M : Type 1} → statement M
 parse-spec =
