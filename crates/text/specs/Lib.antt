@@ -2,3 +2,5 @@
 pub mod Fields
 pub mod Lines
 pub mod Contracts
+pub mod Output
+pub mod PrintContracts

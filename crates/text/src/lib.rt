@@ -1,4 +1,6 @@
 // The lines of the line program: read from bytes. A line comes without its line feed.
+pub mod print;
+
 ghost use mathlib.Core.Path.{_≡_};
 ghost use Prim.Native.Nat.{_≤_};
 ghost use lib.ListN.{length};
