@@ -1,0 +1,2 @@
+-- The calls in numbers.
+pub mod Numbers

@@ -1,0 +1,33 @@
+-- The answers in numbers, and what a call left as the contract of every call reads it. Definitions only. Assumes nothing.
+use mathlib.Core.Path.{_≡_}
+use mathlib.Core.Bool.{cond}
+use mathlib.Core.List.{List}
+use Prim.Native.Nat.{ℕ}
+use lib.Dec.{eqb}
+use Rattle.window.specs.declared.answers.Step.{Step}
+use Rattle.model.specs.Calls.{Answer, done, new, replaced, absent, found, pair, released, refused}
+use Rattle.model.specs.Contract.{Left}
+use Rattle.calls.specs.Answers.{answerOf, stateOf}
+use Rattle.exports.specs.declared.NumberedAnswer.{NumberedAnswer}
+use Rattle.exports.specs.declared.NumberedStep.{NumberedStep}
+
+-- document 01's answer for each code; 7 is a refusal, with its number
+unfoldable pub answerFrom : NumberedAnswer → Answer
+answerFrom a =
+    cond (eqb (a .code) 0) done
+    (cond (eqb (a .code) 1) new
+    (cond (eqb (a .code) 2) (replaced (a .first))
+    (cond (eqb (a .code) 3) absent
+    (cond (eqb (a .code) 4) (found (a .first))
+    (cond (eqb (a .code) 5) (pair (a .first) (a .second) (a .third))
+    (cond (eqb (a .code) 6) (released (a .first) (a .second))
+    (refused (a .first))))))))
+
+abbrev pub numbersLeft : NumberedStep → List ℕ → List ℕ → List ℕ → List ℕ → List ℕ → Left
+numbersLeft r ss vs pages blocks l = record { answer = answerFrom (r .answer); count = r .count; state = stateOf (r .window) ss vs pages blocks; list = l }
+
+-- a step, and the same in numbers
+pub record Same (s : Step) (r : NumberedStep) : Type 0 where
+  pub window : r .window ≡ s .window
+  pub answer : answerFrom (r .answer) ≡ answerOf (s .answer .answer)
+  pub count : r .count ≡ s .answer .count

@@ -1,0 +1,216 @@
+// The calls in C's calling convention: header and answers by value, a list as a pointer and its length. `rt staticlib exports` makes
+// the library.
+use points::exchange::exchange;
+use points::insert::insert;
+use points::remove::remove;
+use reads::first_from;
+use reads::get;
+use reads::iter;
+use reads::successor_after;
+use window::AdaptiveReceiverPacketWindow;
+use window::answers::Answer;
+use window::answers::Step;
+use window::refusals::Refusal;
+ghost use mathlib.Core.Path.{_≡_};
+ghost use mathlib.Core.List.{[]};
+ghost use lib.Dec.{leb};
+ghost use lib.ListN.{length};
+ghost use Rattle.window.specs.Refusals.{refusalNumber};
+ghost use Rattle.model.specs.Calls.{insert as insertOf, get as getOf, exchange as exchangeOf, remove as removeOf, successor-after, first-from, iter as iterOf};
+ghost use Rattle.model.specs.Contract.{Meets};
+ghost use Rattle.calls.specs.Answers.{answerOf, stateOf};
+ghost use Rattle.exports.specs.Numbers.{answerFrom, numbersLeft, Same};
+
+// code: 0 done, 1 new, 2 replaced, 3 absent, 4 found, 5 a pair, 6 released, 7 refused; then the values of the answer, or the
+// refusal's number.
+#[repr(C)]
+pub struct NumberedAnswer {
+    pub code: u32,
+    pub first: u32,
+    pub second: u32,
+    pub third: u32,
+}
+
+// The header after a call, its answer, and how many values it put into its return list.
+#[repr(C)]
+pub struct NumberedStep {
+    pub window: AdaptiveReceiverPacketWindow,
+    pub answer: NumberedAnswer,
+    pub count: u32,
+}
+
+// Document 01's number of a refusal.
+pub fn refusal_number(why: Refusal) -> u32
+    ensures { λ r. ⌜ r ≡ refusalNumber why ⌝ }
+{
+    match why {
+        Refusal::WindowSize => 1,
+        Refusal::SparseCells => 2,
+        Refusal::DemoteAt => 3,
+        Refusal::Occupied => 4,
+        Refusal::RangeCount => 5,
+        Refusal::ShortMemory => 6,
+        Refusal::Unsound => 7,
+        Refusal::Budget => 8,
+    }
+}
+
+fn numbered(code: u32, first: u32, second: u32, third: u32) -> NumberedAnswer
+    ensures { λ r. ⌜ r ≡ record { code = code; first = first; second = second; third = third } ⌝ }
+{
+    NumberedAnswer {
+        code,
+        first,
+        second,
+        third,
+    }
+}
+
+// An answer in numbers.
+fn numbers(answer: Answer) -> NumberedAnswer
+    ensures { λ r. ⌜ answerFrom r ≡ answerOf answer ⌝ }
+{
+    match answer {
+        Answer::Done => numbered(0, 0, 0, 0),
+        Answer::New => numbered(1, 0, 0, 0),
+        Answer::Replaced(value) => numbered(2, value, 0, 0),
+        Answer::Absent => numbered(3, 0, 0, 0),
+        Answer::Found(number) => numbered(4, number, 0, 0),
+        Answer::Pair(sequence, value, next) => numbered(5, sequence, value, next),
+        Answer::Released(values, units) => numbered(6, values, units, 0),
+        Answer::Refused(why) => numbered(7, refusal_number(why), 0, 0),
+    }
+}
+
+// A step in numbers.
+fn in_numbers(step: Step) -> NumberedStep
+    ensures { λ r. ⌜ Same step r ⌝ }
+{
+    let window = step.window;
+    let outcome = step.answer;
+    let given = outcome.answer;
+    let count = outcome.count;
+    let answer = numbers(given);
+    NumberedStep {
+        window,
+        answer,
+        count,
+    }
+}
+
+#[no_mangle]
+pub extern "C" fn packet_window_get(
+    w: AdaptiveReceiverPacketWindow,
+    sequences: &[u32],
+    values: &[u32],
+    pages: &[u64],
+    blocks: &[u64],
+    sequence: u32,
+) -> NumberedStep
+    ensures { λ r. ⌜ Meets (getOf sequence) (stateOf w (now (sequences .entry)) (now (values .entry)) (now (pages .entry)) (now (blocks .entry))) []
+        (numbersLeft r (now (sequences .entry)) (now (values .entry)) (now (pages .entry)) (now (blocks .entry)) []) ⌝ }
+{
+    in_numbers(get(w, sequences, values, pages, blocks, sequence))
+}
+
+#[no_mangle]
+pub extern "C" fn packet_window_successor_after(
+    w: AdaptiveReceiverPacketWindow,
+    sequences: &[u32],
+    values: &[u32],
+    pages: &[u64],
+    blocks: &[u64],
+    sequence: u32,
+) -> NumberedStep
+    ensures { λ r. ⌜ Meets (successor-after sequence) (stateOf w (now (sequences .entry)) (now (values .entry)) (now (pages .entry)) (now (blocks .entry))) []
+        (numbersLeft r (now (sequences .entry)) (now (values .entry)) (now (pages .entry)) (now (blocks .entry)) []) ⌝ }
+{
+    in_numbers(successor_after(w, sequences, values, pages, blocks, sequence))
+}
+
+#[no_mangle]
+pub extern "C" fn packet_window_first_from(
+    w: AdaptiveReceiverPacketWindow,
+    sequences: &[u32],
+    values: &[u32],
+    pages: &[u64],
+    blocks: &[u64],
+    sequence: u32,
+) -> NumberedStep
+    ensures { λ r. ⌜ Meets (first-from sequence) (stateOf w (now (sequences .entry)) (now (values .entry)) (now (pages .entry)) (now (blocks .entry))) []
+        (numbersLeft r (now (sequences .entry)) (now (values .entry)) (now (pages .entry)) (now (blocks .entry)) []) ⌝ }
+{
+    in_numbers(first_from(w, sequences, values, pages, blocks, sequence))
+}
+
+#[no_mangle]
+pub extern "C" fn packet_window_iter(
+    w: AdaptiveReceiverPacketWindow,
+    sequences: &[u32],
+    values: &[u32],
+    pages: &[u64],
+    blocks: &[u64],
+    cell: u32,
+) -> NumberedStep
+    ensures { λ r. ⌜ Meets (iterOf cell) (stateOf w (now (sequences .entry)) (now (values .entry)) (now (pages .entry)) (now (blocks .entry))) []
+        (numbersLeft r (now (sequences .entry)) (now (values .entry)) (now (pages .entry)) (now (blocks .entry)) []) ⌝ }
+{
+    in_numbers(iter(w, sequences, values, pages, blocks, cell))
+}
+
+#[no_mangle]
+pub extern "C" fn packet_window_exchange(
+    w: AdaptiveReceiverPacketWindow,
+    sequences: &[u32],
+    values: &mut [u32],
+    pages: &[u64],
+    blocks: &[u64],
+    sequence: u32,
+    value: u32,
+) -> NumberedStep
+    ensures { λ r. ⌜ Meets (exchangeOf sequence value) (stateOf w (now (sequences .entry)) (now (values .entry)) (now (pages .entry)) (now (blocks .entry))) []
+        (numbersLeft r (now (sequences .entry)) (now (values .exit)) (now (pages .entry)) (now (blocks .entry)) []) ⌝ }
+{
+    in_numbers(exchange(w, sequences, values, pages, blocks, sequence, value))
+}
+
+#[no_mangle]
+pub extern "C" fn packet_window_remove(
+    w: AdaptiveReceiverPacketWindow,
+    sequences: &mut [u32],
+    values: &mut [u32],
+    pages: &mut [u64],
+    blocks: &mut [u64],
+    sequence: u32,
+) -> NumberedStep
+    ensures { λ r. ⌜ Meets (removeOf sequence) (stateOf w (now (sequences .entry)) (now (values .entry)) (now (pages .entry)) (now (blocks .entry))) []
+        (numbersLeft r (now (sequences .exit)) (now (values .exit)) (now (pages .exit)) (now (blocks .exit)) []) ⌝ }
+{
+    in_numbers(remove(w, sequences, values, pages, blocks, sequence))
+}
+
+#[no_mangle]
+pub extern "C" fn packet_window_insert(
+    w: AdaptiveReceiverPacketWindow,
+    sequences: &mut [u32],
+    values: &mut [u32],
+    pages: &mut [u64],
+    blocks: &mut [u64],
+    returned: &mut [u32],
+    sequence: u32,
+    value: u32,
+) -> NumberedStep
+    ensures { λ r. ⌜ Meets (insertOf sequence value (leb 384 (length (now (returned .entry))))) (stateOf w (now (sequences .entry)) (now (values .entry)) (now (pages .entry)) (now (blocks .entry))) (now (returned .entry))
+        (numbersLeft r (now (sequences .exit)) (now (values .exit)) (now (pages .exit)) (now (blocks .exit)) (now (returned .exit))) ⌝ }
+{
+    in_numbers(insert(
+        w,
+        sequences,
+        values,
+        pages,
+        blocks,
+        returned,
+        sequence,
+        value,
+    ))
+}
