@@ -2,14 +2,19 @@
 use mathlib.Core.Path.{_≡_, sym, ap, _∙_, subst}
 use mathlib.Core.List.{List}
 use Prim.Native.Nat.{ℕ}
+use Rattle.window.specs.declared.AdaptiveReceiverPacketWindow.{AdaptiveReceiverPacketWindow}
+use Rattle.window.specs.declared.Created.{Created}
 use Rattle.window.specs.declared.answers.Answer.{Answer}
 use Rattle.window.specs.declared.answers.Step.{Step}
+use Rattle.window.specs.Memory.{Memory}
+use Rattle.window.specs.New.{newResult, newOf}
+use Rattle.window.specs.New as window
 use Rattle.model.specs.Calls.{Call}
 use Rattle.model.specs.Contract.{State, Left, Meets}
 use Rattle.calls.specs.Answers.{answerOf, stateOf, leftOf}
 use Rattle.exports.specs.declared.NumberedAnswer.{NumberedAnswer}
 use Rattle.exports.specs.declared.NumberedStep.{NumberedStep}
-use Rattle.exports.specs.Numbers.{answerFrom, numbersLeft, Same}
+use Rattle.exports.specs.Numbers.{answerFrom, numbersLeft, Same, newFrom, Made, Creates}
 
 pub in-numbers : (c : Call) (u : State) (l : List ℕ) (s : Step) (r : NumberedStep) (ss vs pages blocks l′ : List ℕ) → Same s r
     → Meets c u l (leftOf s ss vs pages blocks l′) → Meets c u l (numbersLeft r ss vs pages blocks l′)
@@ -19,3 +24,19 @@ in-numbers c u l s r ss vs pages blocks l′ t =
 
 pub told-as : (r q : NumberedAnswer) (a b : Answer) → r ≡ q → a ≡ b → answerFrom q ≡ answerOf b → answerFrom r ≡ answerOf a
 told-as r q a b e f g = ap answerFrom e ∙ g ∙ sym (ap answerOf f)
+
+made-with : AdaptiveReceiverPacketWindow → NumberedAnswer → NumberedStep
+made-with w q = record { window = w; answer = q; count = 0 }
+
+pub made-as : (r : NumberedStep) (w : AdaptiveReceiverPacketWindow) (q q′ : NumberedAnswer) (a b : Created)
+    → r ≡ record { window = w; answer = q; count = 0 } → q ≡ q′ → a ≡ b → newFrom (record { window = w; answer = q′; count = 0 }) ≡ window.answerOf b → Made a r
+unfolding made-with
+made-as r w q q′ a b e f g h =
+    record {
+      answer = ap newFrom (e ∙ ap (made-with w) f) ∙ h ∙ sym (ap window.answerOf g);
+      count = ap (λ (s : NumberedStep). s .count) e;
+    }
+
+pub creates : (r : NumberedStep) (a : Created) (m m′ : Memory) (size n demoteAt : ℕ) → Made a r
+    → newResult (window.answerOf a) m′ ≡ newOf m size n demoteAt → Creates r m size n demoteAt m′
+creates r a m m′ size n demoteAt t e = record { result = ap (λ (k : window.NewAnswer). newResult k m′) (t .answer) ∙ e; count = t .count }

@@ -4,7 +4,11 @@ use mathlib.Core.Bool.{cond}
 use mathlib.Core.List.{List}
 use Prim.Native.Nat.{ℕ}
 use lib.Dec.{eqb}
+use Rattle.window.specs.declared.Created.{Created}
 use Rattle.window.specs.declared.answers.Step.{Step}
+use Rattle.window.specs.Memory.{Memory}
+use Rattle.window.specs.New.{NewAnswer, made, newResult, newOf}
+use Rattle.window.specs.New as window
 use Rattle.model.specs.Calls.{Answer, done, new, replaced, absent, found, pair, released, refused}
 use Rattle.model.specs.Contract.{Left}
 use Rattle.calls.specs.Answers.{answerOf, stateOf}
@@ -31,3 +35,19 @@ pub record Same (s : Step) (r : NumberedStep) : Type 0 where
   pub window : r .window ≡ s .window
   pub answer : answerFrom (r .answer) ≡ answerOf (s .answer .answer)
   pub count : r .count ≡ s .answer .count
+
+-- ---- new
+
+-- code 0 is the new header, any other a refusal
+unfoldable pub newFrom : NumberedStep → NewAnswer
+newFrom r = cond (eqb (r .answer .code) 0) (made (r .window)) (window.refused (r .answer .first))
+
+-- what new answered, and the same in numbers
+pub record Made (a : Created) (r : NumberedStep) : Type 0 where
+  pub answer : newFrom r ≡ window.answerOf a
+  pub count : r .count ≡ 0
+
+-- what packet_window_new gives over the memory m, which is m′ after the call
+pub record Creates (r : NumberedStep) (m : Memory) (size n demoteAt : ℕ) (m′ : Memory) : Type 0 where
+  pub result : newResult (newFrom r) m′ ≡ newOf m size n demoteAt
+  pub count : r .count ≡ 0

@@ -8,6 +8,7 @@ use reads::get;
 use reads::iter;
 use reads::successor_after;
 use window::AdaptiveReceiverPacketWindow;
+use window::Created;
 use window::answers::Answer;
 use window::answers::Step;
 use window::refusals::Refusal;
@@ -15,11 +16,13 @@ ghost use mathlib.Core.Path.{_≡_};
 ghost use mathlib.Core.List.{[]};
 ghost use lib.Dec.{leb};
 ghost use lib.ListN.{length};
+ghost use Rattle.window.specs.Memory.{memory};
+ghost use Rattle.window.specs.New.{fresh};
 ghost use Rattle.window.specs.Refusals.{refusalNumber};
 ghost use Rattle.model.specs.Calls.{insert as insertOf, get as getOf, exchange as exchangeOf, remove as removeOf, successor-after, first-from, iter as iterOf};
 ghost use Rattle.model.specs.Contract.{Meets};
 ghost use Rattle.calls.specs.Answers.{answerOf, stateOf};
-ghost use Rattle.exports.specs.Numbers.{answerFrom, numbersLeft, Same};
+ghost use Rattle.exports.specs.Numbers.{answerFrom, numbersLeft, Same, Made, Creates};
 
 // code: 0 done, 1 new, 2 replaced, 3 absent, 4 found, 5 a pair, 6 released, 7 refused; then the values of the answer, or the
 // refusal's number.
@@ -96,6 +99,68 @@ fn in_numbers(step: Step) -> NumberedStep
         answer,
         count,
     }
+}
+
+fn numbered_step(window: AdaptiveReceiverPacketWindow, answer: NumberedAnswer) -> NumberedStep
+    ensures { λ r. ⌜ r ≡ record { window = window; answer = answer; count = 0 } ⌝ }
+{
+    NumberedStep {
+        window,
+        answer,
+        count: 0,
+    }
+}
+
+// A header of zeros.
+fn no_window() -> AdaptiveReceiverPacketWindow
+    ensures { λ r. ⌜ r ≡ fresh 0 0 0 ⌝ }
+{
+    AdaptiveReceiverPacketWindow {
+        window_size: 0,
+        n: 0,
+        demote_at: 0,
+        len: 0,
+        retired_held: 0,
+        release_cursor: 0,
+        nonempty_summary: 0,
+        retired_blocks: 0,
+        promotions: 0,
+        demotions: 0,
+    }
+}
+
+// What new gives in numbers; a refusal comes with a header of zeros, with which every call is refused 6.
+fn created(made: Created) -> NumberedStep
+    ensures { λ r. ⌜ Made made r ⌝ }
+{
+    match made {
+        Created::New(window) => numbered_step(window, numbered(0, 0, 0, 0)),
+        Created::Refused(why) => numbered_step(no_window(), numbered(7, refusal_number(why), 0, 0)),
+    }
+}
+
+#[no_mangle]
+pub extern "C" fn packet_window_new(
+    sequences: &mut [u32],
+    values: &mut [u32],
+    pages: &mut [u64],
+    blocks: &mut [u64],
+    window_size: u32,
+    n: u32,
+    demote_at: u32,
+) -> NumberedStep
+    ensures { λ r. ⌜ Creates r (memory (now (sequences .entry)) (now (values .entry)) (now (pages .entry)) (now (blocks .entry))) «window_size» n «demote_at»
+        (memory (now (sequences .exit)) (now (values .exit)) (now (pages .exit)) (now (blocks .exit))) ⌝ }
+{
+    created(AdaptiveReceiverPacketWindow::new(
+        sequences,
+        values,
+        pages,
+        blocks,
+        window_size,
+        n,
+        demote_at,
+    ))
 }
 
 #[no_mangle]
