@@ -4,3 +4,4 @@ pub mod Interval
 pub mod FieldLaws
 pub mod LineLaws
 pub mod LoopLaws
+pub mod PrintLaws
