@@ -57,6 +57,12 @@ one-digit n h = let e : n % 10 ≡ n = omega arith in low 18 n h ∙ ap (λ (k :
 pub more-digits : (n : ℕ) → n < 2 ^ 64 → 10 ≤ n → digits n ≡ digits (n / 10) ++ ((48 + n % 10) ∷ [])
 more-digits n l h = high 18 n h ∙ ap (λ (l : List ℕ). l ++ ((48 + n % 10) ∷ [])) (enough 18 (n / 10) (omega arith))
 
+pub one-length : (n : ℕ) → n < 10 → length (digits n) ≡ 1
+one-length n h = ap length (one-digit n h)
+
+pub more-length : (n : ℕ) → n < 2 ^ 64 → 10 ≤ n → length (digits n) ≡ length (digits (n / 10)) + 1
+more-length n l h = ap length (more-digits n l h) ∙ length-append (digits (n / 10)) ((48 + n % 10) ∷ [])
+
 few : (f n : ℕ) → length (digitsUpTo f n) ≤ f + 1
 few zero n = rw (none-more n) (omega arith)
 few (suc f) n =
@@ -82,3 +88,29 @@ tabbed-snoc [] n = rw (tabbed-cons n [], tabbed-none) (append-nil (9 ∷ digits 
 tabbed-snoc (m ∷ ns) n =
     tabbed-cons m (ns ++ (n ∷ [])) ∙ ap (λ (l : List ℕ). (9 ∷ digits m) ++ l) (tabbed-snoc ns n)
     ∙ sym (append-assoc (9 ∷ digits m) (tabbed ns) (9 ∷ digits n)) ∙ ap (λ (l : List ℕ). l ++ (9 ∷ digits n)) (sym (tabbed-cons m ns))
+
+-- i values are put from `at` on, up to `to`
+pub record PutSoFar (at count : ℕ) (values out₀ : List ℕ) (i to : ℕ) (out : List ℕ) : Type 0 where
+  pub long : length out ≡ length out₀
+  pub few : i ≤ count
+  pub room : to ≤ at + 21 * i
+  pub puts : Puts at (tabbed (take i values)) out₀ to out
+
+pub start : (at count : ℕ) (values out : List ℕ) → PutSoFar at count values out 0 at out
+start at count values out = record {
+  long = refl;
+  few = omega arith;
+  room = omega arith;
+  puts = rw tabbed-none (put-none at out) }
+
+pub turn : (at count : ℕ) (values out₀ : List ℕ) (i to : ℕ) (out : List ℕ) (m : ℕ) (out₁ : List ℕ) (r : ℕ) (out₂ : List ℕ)
+    → PutSoFar at count values out₀ i to out → i < count → count ≤ length values → Puts to (9 ∷ []) out m out₁
+    → Puts m (digits (getD values i 0)) out₁ r out₂ → length out₂ ≡ length out → PutSoFar at count values out₀ (i + 1) r out₂
+turn at count values out₀ i to out m out₁ r out₂ s h c p q l = record {
+  long = l ∙ s .long;
+  few = omega arith;
+  room = omega (arith, s .room, p .end, q .end, at-most-20 (getD values i 0));
+  puts =
+    rw (add-one i, take-suc values i 0 (omega (arith, h, c)), tabbed-snoc (take i values) (getD values i 0))
+    (put-then at to r (tabbed (take i values)) ((9 ∷ []) ++ digits (getD values i 0)) out₀ out out₂ (s .puts)
+      (put-then to m r (9 ∷ []) (digits (getD values i 0)) out out₁ out₂ p q)) }

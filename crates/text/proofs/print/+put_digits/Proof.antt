@@ -2,6 +2,9 @@ use borrow.Author.Needs.{needs}
 use Prim.Native.Nat.{ℕ, _<_}
 use borrow.Fn.Kinds.{In}
 use borrow.Fn.PlainCycle.{Measures, is, falls, and}
+use native.Mathlib.Omega.{arith}
+use mathlib.Core.Path.{_∙_}
+use Rattle.text.proofs.PrintLaws.{put-then, one-digit, more-digits, one-length, more-length}
 use Rattle.text.proofs.print.put_digits.Reads as put-digits
 use Rattle.text.proofs.print.put_digits.Kinds as put-digits-kinds
 use Rattle.text.proofs.print.+put_digits.Lts-put_digits as put-digits-lts
@@ -27,7 +30,7 @@ put-digits-cast-last : (t : ℕ) → put-digits-lts.Need-cast-last (
   put-digits-below t,
   put-digits.Post,
 ) (put-digits-at t) put-digits.Post
-put-digits-cast-last t c = ?
+put-digits-cast-last t c = search needs
 
 -- src/print.rt:24:16
 put-digits-add-last : (t : ℕ) → put-digits-lts.Need-add-last (
@@ -36,7 +39,7 @@ put-digits-add-last : (t : ℕ) → put-digits-lts.Need-add-last (
   put-digits-below t,
   put-digits.Post,
 ) (put-digits-at t) put-digits.Post
-put-digits-add-last t c = ?
+put-digits-add-last t c = search needs
 
 -- src/print.rt:26:9
 put-digits-put-byte-requires : (t : ℕ) → put-digits-lts.Need-put-byte-requires (
@@ -45,7 +48,9 @@ put-digits-put-byte-requires : (t : ℕ) → put-digits-lts.Need-put-byte-requir
   put-digits-below t,
   put-digits.Post,
 ) (put-digits-at t) put-digits.Post
-put-digits-put-byte-requires t c κs = ?
+put-digits-put-byte-requires t c κs =
+    let s = c .before .before .before in
+    omega (arith, s .pre .1, one-length (s .args .number) (c .before .if1 .taken))
 
 -- src/print.rt:26:9
 put-digits-same-length : (t : ℕ) → put-digits-lts.Need-same-length (
@@ -54,7 +59,7 @@ put-digits-same-length : (t : ℕ) → put-digits-lts.Need-same-length (
   put-digits-below t,
   put-digits.Post,
 ) (put-digits-at t) put-digits.Post
-put-digits-same-length t c = ?
+put-digits-same-length t c = c .before .before .put-byte .kept .0
 
 -- src/print.rt:26:9
 put-digits-returns : (t : ℕ) → put-digits-lts.Need-returns (
@@ -63,7 +68,9 @@ put-digits-returns : (t : ℕ) → put-digits-lts.Need-returns (
   put-digits-below t,
   put-digits.Post,
 ) (put-digits-at t) put-digits.Post
-put-digits-returns t c = ?
+put-digits-returns t c =
+    let s = c .before .before .before .before .before .before in
+    rw (one-digit (s .args .number) (c .before .before .before .before .if1 .taken)) (c .before .before .put-byte .ensures)
 
 -- src/print.rt:28:9
 put-digits-put-digits-requires : (t : ℕ) → put-digits-lts.Need-put-digits-requires (
@@ -72,7 +79,10 @@ put-digits-put-digits-requires : (t : ℕ) → put-digits-lts.Need-put-digits-re
   put-digits-below t,
   put-digits.Post,
 ) (put-digits-at t) put-digits.Post
-put-digits-put-digits-requires t c κs = ?
+put-digits-put-digits-requires t c κs =
+    let s = c .before .before .before in
+    let g = c .before .if1 .left in
+    (omega (arith, g, s .pre .0), omega (arith, s .pre .1, more-length (s .args .number) (s .fits .number .fits) g))
 
 -- src/print.rt:29:5
 put-digits-put-byte-requires-2 : (t : ℕ) → put-digits-lts.Need-put-byte-requires-2 (
@@ -81,7 +91,10 @@ put-digits-put-byte-requires-2 : (t : ℕ) → put-digits-lts.Need-put-byte-requ
   put-digits-below t,
   put-digits.Post,
 ) (put-digits-at t) put-digits.Post
-put-digits-put-byte-requires-2 t c κs = ?
+put-digits-put-byte-requires-2 t c κs =
+    let s = c .before .before .before .before .before .before .before in
+    let d = c .before .before .before .put-digits in
+    omega (arith, s .pre .1, d .ensures .end, d .kept .0, more-length (s .args .number) (s .fits .number .fits) (c .before .before .before .before .before .if1 .left))
 
 -- src/print.rt:20:1
 put-digits-same-length-2 : (t : ℕ) → put-digits-lts.Need-same-length-2 (
@@ -90,7 +103,7 @@ put-digits-same-length-2 : (t : ℕ) → put-digits-lts.Need-same-length-2 (
   put-digits-below t,
   put-digits.Post,
 ) (put-digits-at t) put-digits.Post
-put-digits-same-length-2 t c = ?
+put-digits-same-length-2 t c = c .before .before .put-byte2 .kept .0 ∙ c .before .before .before .before .before .before .put-digits .kept .0
 
 -- src/print.rt:20:1
 put-digits-returns-2 : (t : ℕ) → put-digits-lts.Need-returns-2 (
@@ -99,7 +112,10 @@ put-digits-returns-2 : (t : ℕ) → put-digits-lts.Need-returns-2 (
   put-digits-below t,
   put-digits.Post,
 ) (put-digits-at t) put-digits.Post
-put-digits-returns-2 t c = ?
+put-digits-returns-2 t c =
+    let s = c .before .before .before .before .before .before .before .before .before .before in
+    rw (more-digits (s .args .number) (s .fits .number .fits) (c .before .before .before .before .before .before .before .before .if1 .left))
+    (put-then _ _ _ _ _ _ _ _ (c .before .before .before .before .before .before .put-digits .ensures) (c .before .before .put-byte2 .ensures))
 
 pub +put-digits-spec : {M : Type 1} → statement M
 +put-digits-spec = close μ-put-digits λ t. put-digits-lts.spec (

@@ -1,4 +1,7 @@
 use borrow.Author.Needs.{needs}
+use Prim.Native.Nat.{_-_}
+use native.Mathlib.Omega.{arith}
+use Rattle.text.proofs.PrintLaws.{PutSoFar, start, turn, at-most-20}
 use Rattle.text.proofs.print.put_values.Statement.{statement}
 use Rattle.text.proofs.print.put_values.Tie as tie
 use Rattle.text.proofs.print.put_values.Reads as reads
@@ -7,42 +10,42 @@ use Rattle.text.proofs.print.put_byte.Reads as put-byte-reads
 use Rattle.text.proofs.print.put_number.Reads as put-number-reads
 
 abbrev Inv-loop : tie.InvT-loop
-Inv-loop out₀ at values count to₀ i₀ out to i = ?
+Inv-loop out₀ at values count to₀ i₀ out to i = PutSoFar at count values out₀ i to out
 
 abbrev μ-loop : tie.MeasureT-loop
-μ-loop out₀ at values count to₀ i₀ out to i = ?
+μ-loop out₀ at values count to₀ i₀ out to i = count - i
 
 -- src/print.rt:47:5
 loop-holds : tie.Need-loop-holds Inv-loop μ-loop
-loop-holds c = search needs
+loop-holds c = start _ _ _ _
 
 -- src/print.rt:48:13
 put-byte-requires : tie.Need-put-byte-requires Inv-loop μ-loop
-put-byte-requires c κs = search needs
+put-byte-requires c κs = ?
 
 -- src/print.rt:49:36
 mul-put-number : tie.Need-mul-put-number Inv-loop μ-loop
-mul-put-number c = search needs
+mul-put-number c = ?
 
 -- src/print.rt:49:36
 shared-slice-read-put-number : tie.Need-shared-slice-read-put-number Inv-loop μ-loop
-shared-slice-read-put-number c = search needs
+shared-slice-read-put-number c = ?
 
 -- src/print.rt:49:36
 cast-put-number : tie.Need-cast-put-number Inv-loop μ-loop
-cast-put-number c = search needs
+cast-put-number c = ?
 
 -- src/print.rt:49:9
 put-number-requires : tie.Need-put-number-requires Inv-loop μ-loop
-put-number-requires c κs = search needs
+put-number-requires c κs = ?
 
 -- src/print.rt:50:9
 add-i : tie.Need-add-i Inv-loop μ-loop
-add-i c = search needs
+add-i c = ?
 
 -- src/print.rt:47:5
 loop-less : tie.Need-loop-less Inv-loop μ-loop
-loop-less c = search needs
+loop-less c = ?
 
 -- src/print.rt:47:5
 loop-again : tie.Need-loop-again Inv-loop μ-loop
@@ -50,7 +53,7 @@ loop-again c = ?
 
 -- src/print.rt:41:1
 same-length : tie.Need-same-length Inv-loop μ-loop
-same-length c = search needs
+same-length c = ?
 
 -- src/print.rt:41:1
 returns : tie.Need-returns Inv-loop μ-loop
