@@ -23,7 +23,8 @@ put-one at b out h = record { end = omega arith; filled = rw (add-one at) (take-
 pub put-then : (at m r : ℕ) (xs ys out₀ out₁ out : List ℕ) → Puts at xs out₀ m out₁ → Puts m ys out₁ r out → Puts at (xs ++ ys) out₀ r out
 put-then at m r xs ys out₀ out₁ out p q = record {
   end = omega (arith, p .end, q .end, length-append xs ys);
-  filled = q .filled ∙ ap (λ (l : List ℕ). l ++ ys) (p .filled) ∙ append-assoc (take at out₀) xs ys }
+  filled = q .filled ∙ ap (λ (l : List ℕ). l ++ ys) (p .filled) ∙ append-assoc (take at out₀) xs ys;
+}
 
 -- one step of the digits
 none-more : (n : ℕ) → digitsUpTo zero n ≡ (48 + n % 10) ∷ []
@@ -48,8 +49,8 @@ enough (suc f) n h =
     bool (ltb n 10)
     (λ (e : ltb n 10 ≡ true). let l = ltb-true n 10 e in low f n l ∙ sym (low (suc f) n l))
     (λ (e : ltb n 10 ≡ false).
-      let g = ltb-false n 10 e in
-      high f n g ∙ ap (λ (l : List ℕ). l ++ ((48 + n % 10) ∷ [])) (enough f (n / 10) (omega (arith, h, pow-suc 10 (suc f)))) ∙ sym (high (suc f) n g))
+    let g = ltb-false n 10 e in
+    high f n g ∙ ap (λ (l : List ℕ). l ++ ((48 + n % 10) ∷ [])) (enough f (n / 10) (omega (arith, h, pow-suc 10 (suc f)))) ∙ sym (high (suc f) n g))
 
 pub one-digit : (n : ℕ) → n < 10 → digits n ≡ (48 + n % 10) ∷ []
 one-digit n h = let e : n % 10 ≡ n = omega arith in low 18 n h ∙ ap (λ (k : ℕ). (48 + k) ∷ []) (sym e)
@@ -69,7 +70,7 @@ few (suc f) n =
     bool (ltb n 10)
     (λ (e : ltb n 10 ≡ true). rw (low f n (ltb-true n 10 e)) (omega arith))
     (λ (e : ltb n 10 ≡ false).
-      rw (high f n (ltb-false n 10 e), length-append (digitsUpTo f (n / 10)) ((48 + n % 10) ∷ [])) (omega (arith, few f (n / 10))))
+    rw (high f n (ltb-false n 10 e), length-append (digitsUpTo f (n / 10)) ((48 + n % 10) ∷ [])) (omega (arith, few f (n / 10))))
 
 pub at-most-20 : (n : ℕ) → length (digits n) ≤ 20
 at-most-20 n = few 19 n
@@ -101,7 +102,8 @@ start at count values out = record {
   long = refl;
   few = omega arith;
   room = omega arith;
-  puts = rw tabbed-none (put-none at out) }
+  puts = rw tabbed-none (put-none at out);
+}
 
 pub turn : (at count : ℕ) (values out₀ : List ℕ) (i to : ℕ) (out : List ℕ) (m : ℕ) (out₁ : List ℕ) (r : ℕ) (out₂ : List ℕ)
     → PutSoFar at count values out₀ i to out → i < count → count ≤ length values → Puts to (9 ∷ []) out m out₁
@@ -111,6 +113,7 @@ turn at count values out₀ i to out m out₁ r out₂ s h c p q l = record {
   few = omega arith;
   room = omega (arith, s .room, p .end, q .end, at-most-20 (getD values i 0));
   puts =
-    rw (add-one i, take-suc values i 0 (omega (arith, h, c)), tabbed-snoc (take i values) (getD values i 0))
-    (put-then at to r (tabbed (take i values)) ((9 ∷ []) ++ digits (getD values i 0)) out₀ out out₂ (s .puts)
-      (put-then to m r (9 ∷ []) (digits (getD values i 0)) out out₁ out₂ p q)) }
+      rw (add-one i, take-suc values i 0 (omega (arith, h, c)), tabbed-snoc (take i values) (getD values i 0))
+      (put-then at to r (tabbed (take i values)) ((9 ∷ []) ++ digits (getD values i 0)) out₀ out out₂ (s .puts)
+      (put-then to m r (9 ∷ []) (digits (getD values i 0)) out out₁ out₂ p q));
+}
