@@ -1,4 +1,4 @@
--- Bytes put one after the other, and the digits of a number. Assumes nothing.
+-- Bytes put one after the other, the digits of a number, and the loop over the values. Assumes nothing.
 use mathlib.Core.Path.{_≡_, refl, sym, _∙_, ap}
 use mathlib.Core.Bool.{true, false}
 use mathlib.Core.List.{List, [], _∷_, _++_, append-assoc, append-nil}

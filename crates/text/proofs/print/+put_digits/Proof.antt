@@ -1,3 +1,4 @@
+-- A number below 10 is one digit; any other has the digits of a tenth of it, then its last. The measure is the number. Assumes nothing.
 use borrow.Author.Needs.{needs}
 use Prim.Native.Nat.{ℕ, _<_}
 use borrow.Fn.Kinds.{In}

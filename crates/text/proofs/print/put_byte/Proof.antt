@@ -1,9 +1,8 @@
+-- One store is one byte put. Assumes nothing.
 use borrow.Author.Needs.{needs}
 use Rattle.text.proofs.PrintLaws.{put-one}
 use Rattle.text.proofs.print.put_byte.Statement.{statement}
 use Rattle.text.proofs.print.put_byte.Tie as tie
-use Rattle.text.proofs.print.put_byte.Reads as reads
-use Rattle.text.proofs.print.put_byte.Lts as lts
 
 -- src/print.rt:15:5
 slice-write-out : tie.Need-slice-write-out

@@ -1,10 +1,8 @@
+-- A number of 64 bits has at most 20 digits, so they have room. Assumes nothing.
 use native.Mathlib.Omega.{arith}
 use Rattle.text.proofs.PrintLaws.{at-most-20}
 use Rattle.text.proofs.print.put_number.Statement.{statement}
 use Rattle.text.proofs.print.put_number.Tie as tie
-use Rattle.text.proofs.print.put_number.Reads as reads
-use Rattle.text.proofs.print.put_number.Lts as lts
-use Rattle.text.proofs.print.put_digits.Reads as put-digits-reads
 
 -- src/print.rt:37:5
 put-digits-requires : tie.Need-put-digits-requires

@@ -1,3 +1,4 @@
+-- While the loop runs, the first i values are put. Assumes nothing.
 use borrow.Author.Needs.{needs}
 use mathlib.Core.Path.{_≡_, _∙_}
 use Prim.Native.Nat.{_-_}
@@ -5,10 +6,6 @@ use native.Mathlib.Omega.{arith}
 use Rattle.text.proofs.PrintLaws.{PutSoFar, start, turn}
 use Rattle.text.proofs.print.put_values.Statement.{statement}
 use Rattle.text.proofs.print.put_values.Tie as tie
-use Rattle.text.proofs.print.put_values.Reads as reads
-use Rattle.text.proofs.print.put_values.Lts as lts
-use Rattle.text.proofs.print.put_byte.Reads as put-byte-reads
-use Rattle.text.proofs.print.put_number.Reads as put-number-reads
 
 abbrev Inv-loop : tie.InvT-loop
 Inv-loop out₀ at values count to₀ i₀ out to i = PutSoFar at count values out₀ i to out
@@ -22,7 +19,10 @@ loop-holds c = start _ _ _ _
 
 -- src/print.rt:48:13
 put-byte-requires : tie.Need-put-byte-requires Inv-loop μ-loop
-put-byte-requires c κs = let s = c .before .before .before .before .before in let i = c .before .before .loop .inv in omega (arith, s .pre .1, i .long, i .room, c .before .loop-test .taken)
+put-byte-requires c κs =
+    let s = c .before .before .before .before .before in
+    let i = c .before .before .loop .inv in
+    omega (arith, s .pre .1, i .long, i .room, c .before .loop-test .taken)
 
 -- src/print.rt:49:36
 mul-put-number : tie.Need-mul-put-number Inv-loop μ-loop
@@ -57,7 +57,8 @@ loop-again : tie.Need-loop-again Inv-loop μ-loop
 loop-again c =
     let n = c .before .before .put-number in
     let p = c .before .before .before .before .before .before .before .put-byte in
-    turn _ _ _ _ _ _ _ _ _ _ _ (c .before .before .before .before .before .before .before .before .before .before .loop .inv) (c .before .before .before .before .before .before .before .before .before .loop-test .taken) (c .before .before .before .before .before .before .before .before .before .before .before .before .before .pre .0) (p .ensures) (n .ensures) (n .kept .0 ∙ p .kept .0)
+    let t = c .before .before .before .before .before .before .before .before .before in
+    turn _ _ _ _ _ _ _ _ _ _ _ (t .before .loop .inv) (t .loop-test .taken) (t .before .before .before .before .pre .0) (p .ensures) (n .ensures) (n .kept .0 ∙ p .kept .0)
 
 -- src/print.rt:41:1
 same-length : tie.Need-same-length Inv-loop μ-loop
