@@ -16,26 +16,25 @@ fn put_byte(out: &mut [u8], at: usize, byte: u8) -> usize
     at + 1
 }
 
+// A number's digits, the highest first: those of a tenth of it, then its last.
+fn put_digits(out: &mut [u8], at: usize, number: u64) -> usize
+    requires { ⌜ at + length (digits number) ≤ length (now out) ⌝ }
+    ensures { λ r. ⌜ Puts at (digits number) (now (out .entry)) r (now (out .exit)) ⌝ }
+{
+    let last = b'0' + (number % 10) as u8;
+    if number < 10 {
+        return put_byte(out, at, last);
+    }
+    let to = put_digits(out, at, number / 10);
+    put_byte(out, to, last)
+}
+
 // A number, in decimal.
 pub fn put_number(out: &mut [u8], at: usize, number: u64) -> usize
     requires { ⌜ at + 20 ≤ length (now out) ⌝ }
     ensures { λ r. ⌜ Puts at (digits number) (now (out .entry)) r (now (out .exit)) ⌝ }
 {
-    let mut count: usize = 1;
-    let mut left = number / 10;
-    while left != 0 {
-        left = left / 10;
-        count += 1;
-    }
-    let end = at + count;
-    let mut rest = number;
-    let mut i = end;
-    while at < i {
-        i -= 1;
-        out[i] = b'0' + (rest % 10) as u8;
-        rest = rest / 10;
-    }
-    end
+    put_digits(out, at, number)
 }
 
 // A tab and a number for each of the first `count` values.
