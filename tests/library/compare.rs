@@ -1,0 +1,150 @@
+//! The static library against the source, in one process.
+//!
+//! `compare FIRST LAST CALLS [--large|--small]`: one list of calls for each seed. Each call is made on the source and, where
+//! the library has it, on the library: the answer, the returned values in order, the header, all block words, and words and
+//! cells in use of the call's page are compared after it, those of all pages after each call on windows up to 512 and now and
+//! then on larger ones. After a call that the library lacks its window is copied from the source.
+
+/// The source's work counters stay out.
+macro_rules! count_work {
+    ($($counter:tt)*) => {};
+}
+
+#[allow(dead_code)] // the generator uses the rest
+#[path = "../../oracle/src/calls.rs"]
+mod calls;
+mod library;
+#[path = "../../oracle/src/line.rs"]
+mod line;
+#[path = "../../oracle/src/reference.rs"]
+mod reference;
+#[path = "../../oracle/src/value.rs"]
+mod value;
+#[path = "../../oracle/target/window.rs"]
+mod window;
+
+use calls::{Generator, Item, Options, Random};
+use library::Library;
+use line::Call;
+use reference::{call_and_drops, fresh, Window};
+use std::process::ExitCode;
+
+#[derive(Default)]
+struct Counts {
+    compared: u64,
+    refused: u64,
+    copied: u64,
+}
+
+struct Both {
+    source: Box<dyn Window>,
+    library: Library,
+    past: (Vec<u32>, Vec<u64>),
+}
+
+impl Both {
+    /// Every page, or the page of the call's sequence.
+    fn pages(&self, call: Call, all: bool) -> Vec<usize> {
+        let count = self.source.page_count();
+        match call {
+            _ if all => (0..count).collect(),
+            Call::Insert { sequence, .. } | Call::Exchange { sequence, .. } | Call::Remove(sequence) => {
+                vec![sequence as usize / 64 % count]
+            }
+            _ => Vec::new(),
+        }
+    }
+
+    fn call(&mut self, random: &mut Random, counts: &mut Counts, call: Call) -> Result<(), String> {
+        if random.percent(2) {
+            self.library.short(random, call)?;
+            counts.refused += 1;
+        }
+        let (answer, dropped) = call_and_drops(self.source.as_mut(), call);
+        if !self.library.call(call, &answer, &dropped)? {
+            self.library.copy(self.source.as_ref());
+            counts.copied += 1;
+            return Ok(());
+        }
+        counts.compared += 1;
+        let all = self.source.page_count() <= 8 || random.percent(1);
+        let pages = self.pages(call, all);
+        if let Some(difference) = self.library.differs(self.source.as_ref(), pages.into_iter()) {
+            return Err(difference);
+        }
+        if self.library.past() != self.past {
+            return Err("memory past the named lengths changed".to_string());
+        }
+        Ok(())
+    }
+}
+
+fn renewed(random: &mut Random, window_size: u32, n: u32, demote_at: u32) -> Result<Option<Both>, String> {
+    match fresh(window_size, n, demote_at) {
+        Ok(source) => {
+            let library = Library::new(random, window_size, n, demote_at)?;
+            let past = library.past();
+            let pages = 0..source.page_count();
+            if let Some(difference) = library.differs(source.as_ref(), pages) {
+                return Err(difference);
+            }
+            Ok(Some(Both { source, library, past }))
+        }
+        Err(refusal) => Library::refused(random, window_size, n, demote_at, refusal).map(|()| None),
+    }
+}
+
+fn list(seed: u64, calls: u32, options: Options, counts: &mut Counts) -> Result<(), String> {
+    let mut generator = Generator::new(seed, calls, options);
+    let mut random = Random::new(!seed);
+    let mut both: Option<Both> = None;
+    for number in 0..calls {
+        let Item::Call(call) = generator.next() else {
+            continue;
+        };
+        let done = match (call, &mut both) {
+            (Call::New { window_size, n, demote_at }, _) => {
+                renewed(&mut random, window_size, n, demote_at).map(|made| both = made.or(both.take()))
+            }
+            (_, Some(both)) => both.call(&mut random, counts, call),
+            (_, None) => Ok(()),
+        };
+        done.map_err(|why| format!("seed {seed}, line {number}, {:?}: {why}", call.line()))?;
+    }
+    Ok(())
+}
+
+fn run(arguments: &[String]) -> Result<String, String> {
+    let number = |at: usize| arguments.get(at).and_then(|word| word.parse::<u64>().ok());
+    let (Some(first), Some(last), Some(calls)) = (number(0), number(1), number(2)) else {
+        return Err("usage: compare FIRST LAST CALLS [--large|--small]".to_string());
+    };
+    let options = Options {
+        large: arguments.iter().any(|word| word == "--large"),
+        small: arguments.iter().any(|word| word == "--small"),
+        clean: true,
+    };
+    let mut counts = Counts::default();
+    for seed in first..=last {
+        list(seed, calls as u32, options, &mut counts)?;
+    }
+    let Counts { compared, refused, copied } = counts;
+    if compared == 0 || refused == 0 {
+        return Err("no call was compared".to_string());
+    }
+    Ok(format!("{compared} calls as the source, {refused} with a short list refused 6, {copied} states copied"))
+}
+
+fn main() -> ExitCode {
+    let arguments: Vec<String> = std::env::args().skip(1).collect();
+    match run(&arguments) {
+        Ok(said) => {
+            println!("{said}");
+            ExitCode::SUCCESS
+        }
+        Err(why) => {
+            println!("{why}");
+            ExitCode::FAILURE
+        }
+    }
+}

@@ -1,0 +1,325 @@
+//! The static library as a Rust caller declares it, and a window over it.
+
+use crate::calls::Random;
+use crate::line::Call;
+use crate::reference::{Answer, Window};
+use crate::window::WindowHeader;
+
+#[repr(C)]
+#[derive(Debug, Clone, Copy, Default, PartialEq, Eq)]
+pub struct Header {
+    window_size: u32,
+    n: u32,
+    demote_at: u32,
+    len: u32,
+    retired_held: u32,
+    release_cursor: u32,
+    nonempty_summary: u64,
+    retired_blocks: u64,
+    promotions: u64,
+    demotions: u64,
+}
+
+impl From<WindowHeader> for Header {
+    fn from(header: WindowHeader) -> Self {
+        Self {
+            window_size: header.window_size,
+            n: header.n,
+            demote_at: header.demote_at,
+            len: header.len,
+            retired_held: header.retired_held,
+            release_cursor: header.release_cursor,
+            nonempty_summary: header.nonempty_summary,
+            retired_blocks: header.retired_blocks,
+            promotions: header.promotions,
+            demotions: header.demotions,
+        }
+    }
+}
+
+/// Code, then up to three numbers.
+#[repr(C)]
+#[derive(Debug, Clone, Copy, PartialEq, Eq)]
+pub struct NumberedAnswer {
+    code: u32,
+    first: u32,
+    second: u32,
+    third: u32,
+}
+
+#[repr(C)]
+pub struct NumberedStep {
+    window: Header,
+    answer: NumberedAnswer,
+    count: u32,
+}
+
+const DONE: u32 = 0;
+const PAIR: u32 = 5;
+const REFUSED: u32 = 7;
+const SHORT_MEMORY: u32 = 6;
+
+fn numbered(code: u32, first: u32) -> NumberedAnswer {
+    NumberedAnswer {
+        code,
+        first,
+        second: 0,
+        third: 0,
+    }
+}
+
+/// The source's answer as the library must write it. Only iter's is more than one step.
+fn wanted(answer: &Answer) -> NumberedAnswer {
+    match *answer {
+        Answer::Nothing => numbered(DONE, 0),
+        Answer::Inserted => numbered(1, 0),
+        Answer::Replaced(old) => numbered(2, old),
+        Answer::Absent => numbered(3, 0),
+        Answer::Number(number) => numbered(4, number),
+        Answer::Refused(refusal) => numbered(REFUSED, refusal),
+        Answer::Released { .. } | Answer::Pairs(_) => unreachable!("no step of the library"),
+    }
+}
+
+/// A list is its start and its length, two arguments.
+macro_rules! declared {
+    ($($name:ident($($header:ident,)? [$($start:ident $length:ident: $kind:ty),*] $(, $number:ident)*);)*) => {
+        extern "C" {
+            $(fn $name($($header: Header,)? $($start: *mut $kind, $length: usize,)* $($number: u32),*) -> NumberedStep;)*
+        }
+    };
+}
+
+declared! {
+    packet_window_new([s sl: u32, v vl: u32, p pl: u64, b bl: u64], window_size, n, demote_at);
+    packet_window_get(w, [s sl: u32, v vl: u32, p pl: u64, b bl: u64], sequence);
+    packet_window_successor_after(w, [s sl: u32, v vl: u32, p pl: u64, b bl: u64], sequence);
+    packet_window_first_from(w, [s sl: u32, v vl: u32, p pl: u64, b bl: u64], sequence);
+    packet_window_iter(w, [s sl: u32, v vl: u32, p pl: u64, b bl: u64], cell);
+    packet_window_exchange(w, [s sl: u32, v vl: u32, p pl: u64, b bl: u64], sequence, value);
+    packet_window_remove(w, [s sl: u32, v vl: u32, p pl: u64, b bl: u64], sequence);
+    packet_window_insert(w, [s sl: u32, v vl: u32, p pl: u64, b bl: u64, r rl: u32], sequence, value);
+}
+
+/// The lent memory, with room past the named lengths.
+#[derive(Clone, PartialEq, Eq)]
+struct Lists {
+    sequences: Vec<u32>,
+    values: Vec<u32>,
+    pages: Vec<u64>,
+    blocks: Vec<u64>,
+    returned: Vec<u32>,
+}
+
+/// How many elements of each list a call is lent.
+#[derive(Clone, Copy)]
+struct Lengths {
+    cells: [usize; 2],
+    words: [usize; 2],
+    returned: usize,
+}
+
+const PAST: usize = 5;
+const RETURNED: usize = 384;
+
+impl Lengths {
+    fn named(window_size: u32) -> Self {
+        let capacity = (window_size as usize).max(64).next_power_of_two();
+        let pages = capacity / 64;
+        Self {
+            cells: [capacity; 2],
+            words: [3 * pages, 3 * pages.div_ceil(64)],
+            returned: RETURNED,
+        }
+    }
+}
+
+/// A window over the library.
+pub struct Library {
+    header: Header,
+    lists: Lists,
+    lengths: Lengths,
+}
+
+fn any_words(random: &mut Random, length: usize) -> Vec<u64> {
+    (0..length).map(|_| random.next()).collect()
+}
+
+fn any_numbers(random: &mut Random, length: usize) -> Vec<u32> {
+    (0..length).map(|_| random.any()).collect()
+}
+
+impl Library {
+    /// A window that `new` makes over memory of any content.
+    pub fn new(random: &mut Random, window_size: u32, n: u32, demote_at: u32) -> Result<Self, String> {
+        let lengths = Lengths::named(window_size.clamp(1, 65536));
+        let mut library = Self {
+            header: Header::default(),
+            lists: Lists {
+                sequences: any_numbers(random, lengths.cells[0] + PAST),
+                values: any_numbers(random, lengths.cells[1] + PAST),
+                pages: any_words(random, lengths.words[0] + PAST),
+                blocks: any_words(random, lengths.words[1] + PAST),
+                returned: any_numbers(random, lengths.returned + PAST),
+            },
+            lengths,
+        };
+        let step = library.made(lengths, window_size, n, demote_at);
+        if step.answer != numbered(DONE, 0) || step.count != 0 {
+            return Err(format!("new {window_size} {n} {demote_at}: {:?}", step.answer));
+        }
+        library.header = step.window;
+        Ok(library)
+    }
+
+    /// Refusal 1, 2 or 3, and with lists one short refusal 6: nothing is written.
+    pub fn refused(random: &mut Random, window_size: u32, n: u32, demote_at: u32, refusal: u32) -> Result<(), String> {
+        let mut library = Self::new(random, 64, 1, 0)?;
+        let before = library.lists.clone();
+        let step = library.made(library.lengths, window_size, n, demote_at);
+        if step.answer != numbered(REFUSED, refusal) || step.count != 0 || library.lists != before {
+            return Err(format!("new {window_size} {n} {demote_at}: {:?}, not refusal {refusal}", step.answer));
+        }
+        Ok(())
+    }
+
+    fn made(&mut self, lengths: Lengths, window_size: u32, n: u32, demote_at: u32) -> NumberedStep {
+        let Lists { sequences: s, values: v, pages: p, blocks: b, .. } = &mut self.lists;
+        let (sl, vl, pl, bl) = (lengths.cells[0], lengths.cells[1], lengths.words[0], lengths.words[1]);
+        unsafe {
+            packet_window_new(
+                s.as_mut_ptr(), sl, v.as_mut_ptr(), vl, p.as_mut_ptr(), pl, b.as_mut_ptr(), bl,
+                window_size, n, demote_at,
+            )
+        }
+    }
+
+    /// One step of the library; `None` if it has no such call. For iter the step from cell 0.
+    fn step(&mut self, lengths: Lengths, call: Call, cell: u32) -> Option<NumberedStep> {
+        let w = self.header;
+        let Lists { sequences, values, pages, blocks, returned } = &mut self.lists;
+        let (sl, vl, pl, bl) = (lengths.cells[0], lengths.cells[1], lengths.words[0], lengths.words[1]);
+        let (s, v, p, b) = (sequences.as_mut_ptr(), values.as_mut_ptr(), pages.as_mut_ptr(), blocks.as_mut_ptr());
+        let (r, rl) = (returned.as_mut_ptr(), lengths.returned);
+        Some(unsafe {
+            match call {
+                Call::Insert { sequence, value } => packet_window_insert(w, s, sl, v, vl, p, pl, b, bl, r, rl, sequence, value),
+                Call::Get(sequence) => packet_window_get(w, s, sl, v, vl, p, pl, b, bl, sequence),
+                Call::Remove(sequence) => packet_window_remove(w, s, sl, v, vl, p, pl, b, bl, sequence),
+                Call::SuccessorAfter(sequence) => packet_window_successor_after(w, s, sl, v, vl, p, pl, b, bl, sequence),
+                Call::FirstFrom(sequence) => packet_window_first_from(w, s, sl, v, vl, p, pl, b, bl, sequence),
+                Call::Exchange { sequence, value } => packet_window_exchange(w, s, sl, v, vl, p, pl, b, bl, sequence, value),
+                Call::Iter => packet_window_iter(w, s, sl, v, vl, p, pl, b, bl, cell),
+                _ => return None,
+            }
+        })
+    }
+
+    /// With one list one short: refusal 6, and nothing is written.
+    pub fn short(&mut self, random: &mut Random, call: Call) -> Result<(), String> {
+        let mut lengths = self.lengths;
+        let with_list = matches!(call, Call::Insert { .. });
+        match random.below(if with_list { 5 } else { 4 }) {
+            list @ 0..=1 => lengths.cells[list as usize] -= 1,
+            list @ 2..=3 => lengths.words[list as usize - 2] -= 1,
+            _ => lengths.returned -= 1,
+        }
+        let before = self.lists.clone();
+        let Some(step) = self.step(lengths, call, 0) else {
+            return Ok(());
+        };
+        if step.answer != numbered(REFUSED, SHORT_MEMORY) || step.count != 0 || step.window != self.header || self.lists != before {
+            return Err(format!("with a short list: {:?}", step.answer));
+        }
+        Ok(())
+    }
+
+    /// The call on both, compared with what the source answered and dropped; whether the library has it.
+    pub fn call(&mut self, call: Call, answer: &Answer, dropped: &[u32]) -> Result<bool, String> {
+        if let Answer::Pairs(pairs) = answer {
+            return self.pairs(call, pairs).map(|()| true);
+        }
+        let before = self.lists.returned.clone();
+        let Some(step) = self.step(self.lengths, call, 0) else {
+            return Ok(false);
+        };
+        self.header = step.window;
+        let count = step.count as usize;
+        if step.answer != wanted(answer) {
+            return Err(format!("answer {:?}, the source's {answer:?}", step.answer));
+        }
+        if count != dropped.len() || self.lists.returned[..count] != *dropped {
+            return Err(format!("returned {:?}, the source's {dropped:?}", &self.lists.returned[..count]));
+        }
+        if self.lists.returned[count..] != before[count..] {
+            return Err("the return list past the count changed".to_string());
+        }
+        Ok(true)
+    }
+
+    fn pairs(&mut self, call: Call, pairs: &[(u32, u32)]) -> Result<(), String> {
+        let before = (self.header, self.lists.clone());
+        let (mut cell, mut found) = (0, Vec::new());
+        loop {
+            let step = self.step(self.lengths, call, cell).ok_or("iter is missing")?;
+            match step.answer {
+                NumberedAnswer { code: PAIR, first, second, third } if third > cell => {
+                    found.push((first, second));
+                    cell = third;
+                }
+                done if done == numbered(DONE, 0) => break,
+                other => return Err(format!("iter from {cell}: {other:?}")),
+            }
+        }
+        if found != pairs || before != (self.header, self.lists.clone()) {
+            return Err(format!("iter gives {found:?}, the source {pairs:?}"));
+        }
+        Ok(())
+    }
+
+    /// What is not as the source has it: header, block words, and of the pages in `pages` words and cells in use.
+    pub fn differs(&self, source: &dyn Window, pages: impl Iterator<Item = usize>) -> Option<String> {
+        if self.header != source.header().into() {
+            return Some(format!("header {:?}, the source's {:?}", self.header, source.header()));
+        }
+        let words = source.block_words();
+        if self.lists.blocks[..words.len()] != *words {
+            return Some(format!("block words, the source's {words:x?}"));
+        }
+        for page in pages {
+            let words = source.page_words(page);
+            if self.lists.pages[3 * page..3 * page + 3] != [words.kind, words.occupied, words.filled] {
+                return Some(format!("words of page {page}, the source's {words:x?}"));
+            }
+            for (cell, sequence, value) in source.page_cells(page) {
+                let at = 64 * page + cell;
+                if (self.lists.sequences[at], self.lists.values[at]) != (sequence, value) {
+                    return Some(format!("cell {cell} of page {page}, the source's {sequence} {value}"));
+                }
+            }
+        }
+        None
+    }
+
+    /// The library's window becomes the source's; cells not in use keep what they hold.
+    pub fn copy(&mut self, source: &dyn Window) {
+        self.header = source.header().into();
+        let words = source.block_words();
+        self.lists.blocks[..words.len()].copy_from_slice(words);
+        for page in 0..source.page_count() {
+            let words = source.page_words(page);
+            self.lists.pages[3 * page..3 * page + 3].copy_from_slice(&[words.kind, words.occupied, words.filled]);
+            for (cell, sequence, value) in source.page_cells(page) {
+                self.lists.sequences[64 * page + cell] = sequence;
+                self.lists.values[64 * page + cell] = value;
+            }
+        }
+    }
+
+    /// The elements past the named lengths.
+    pub fn past(&self) -> (Vec<u32>, Vec<u64>) {
+        let Lengths { cells, words, .. } = self.lengths;
+        let numbers = [&self.lists.sequences[cells[0]..], &self.lists.values[cells[1]..]].concat();
+        (numbers, [&self.lists.pages[words[0]..], &self.lists.blocks[words[1]..]].concat())
+    }
+}
