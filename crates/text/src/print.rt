@@ -1,6 +1,4 @@
-// Numbers, answers and lines put into a buffer of bytes, from a place on. Each gives the place after what it put.
-use window::answers::Answer;
-use window::refusals::Refusal;
+// Numbers put into a buffer of bytes, from a place on. Each function gives the place after what it put.
 ghost use mathlib.Core.List.{[], _∷_};
 ghost use Prim.Native.Nat.{_+_, _*_, _≤_};
 ghost use lib.ListN.{length, take};
