@@ -172,12 +172,12 @@ impl Library {
         Ok(library)
     }
 
-    /// Refusal 1, 2 or 3, and with lists one short refusal 6: nothing is written.
+    /// Refusal 1, 2 or 3: a header of zeros, and nothing is written.
     pub fn refused(random: &mut Random, window_size: u32, n: u32, demote_at: u32, refusal: u32) -> Result<(), String> {
         let mut library = Self::new(random, 64, 1, 0)?;
         let before = library.lists.clone();
         let step = library.made(library.lengths, window_size, n, demote_at);
-        if step.answer != numbered(REFUSED, refusal) || step.count != 0 || library.lists != before {
+        if step.answer != numbered(REFUSED, refusal) || step.count != 0 || step.window != Header::default() || library.lists != before {
             return Err(format!("new {window_size} {n} {demote_at}: {:?}, not refusal {refusal}", step.answer));
         }
         Ok(())
@@ -194,7 +194,7 @@ impl Library {
         }
     }
 
-    /// One step of the library; `None` if it has no such call. For iter the step from cell 0.
+    /// One step of the library; `None` if it has no such call. For iter the step from `cell`.
     fn step(&mut self, lengths: Lengths, call: Call, cell: u32) -> Option<NumberedStep> {
         let w = self.header;
         let Lists { sequences, values, pages, blocks, returned } = &mut self.lists;

@@ -1,13 +1,15 @@
 -- What a call meets, it meets in numbers. Assumes nothing.
 use mathlib.Core.Path.{_≡_, sym, ap, _∙_, subst}
+use mathlib.Core.Bool.{false}
 use mathlib.Core.List.{List}
 use Prim.Native.Nat.{ℕ}
+use lib.Dec.{eqb}
 use Rattle.window.specs.declared.AdaptiveReceiverPacketWindow.{AdaptiveReceiverPacketWindow}
 use Rattle.window.specs.declared.Created.{Created}
 use Rattle.window.specs.declared.answers.Answer.{Answer}
 use Rattle.window.specs.declared.answers.Step.{Step}
 use Rattle.window.specs.Memory.{Memory}
-use Rattle.window.specs.New.{newResult, newOf}
+use Rattle.window.specs.New.{fresh, newResult, newOf}
 use Rattle.window.specs.New as window
 use Rattle.model.specs.Calls.{Call}
 use Rattle.model.specs.Contract.{State, Left, Meets}
@@ -29,14 +31,17 @@ made-with : AdaptiveReceiverPacketWindow → NumberedAnswer → NumberedStep
 made-with w q = record { window = w; answer = q; count = 0 }
 
 pub made-as : (r : NumberedStep) (w : AdaptiveReceiverPacketWindow) (q q′ : NumberedAnswer) (a b : Created)
-    → r ≡ record { window = w; answer = q; count = 0 } → q ≡ q′ → a ≡ b → newFrom (record { window = w; answer = q′; count = 0 }) ≡ window.answerOf b → Made a r
+    → r ≡ record { window = w; answer = q; count = 0 } → q ≡ q′ → a ≡ b → newFrom (record { window = w; answer = q′; count = 0 }) ≡ window.answerOf b
+    → (eqb (q′ .code) 0 ≡ false → w ≡ fresh 0 0 0) → Made a r
 unfolding made-with
-made-as r w q q′ a b e f g h =
+made-as r w q q′ a b e f g h z =
+    let e′ = e ∙ ap (made-with w) f in
     record {
-      answer = ap newFrom (e ∙ ap (made-with w) f) ∙ h ∙ sym (ap window.answerOf g);
+      answer = ap newFrom e′ ∙ h ∙ sym (ap window.answerOf g);
       count = ap (λ (s : NumberedStep). s .count) e;
+      zeros = λ k. ap (λ (s : NumberedStep). s .window) e ∙ z (sym (ap (λ (s : NumberedStep). eqb (s .answer .code) 0) e′) ∙ k);
     }
 
 pub creates : (r : NumberedStep) (a : Created) (m m′ : Memory) (size n demoteAt : ℕ) → Made a r
     → newResult (window.answerOf a) m′ ≡ newOf m size n demoteAt → Creates r m size n demoteAt m′
-creates r a m m′ size n demoteAt t e = record { result = ap (λ (k : window.NewAnswer). newResult k m′) (t .answer) ∙ e; count = t .count }
+creates r a m m′ size n demoteAt t e = record { result = ap (λ (k : window.NewAnswer). newResult k m′) (t .answer) ∙ e; count = t .count; zeros = t .zeros }

@@ -1,13 +1,13 @@
 -- The answers in numbers, and what a call left as the contract of every call reads it. Definitions only. Assumes nothing.
 use mathlib.Core.Path.{_≡_}
-use mathlib.Core.Bool.{cond}
+use mathlib.Core.Bool.{false, cond}
 use mathlib.Core.List.{List}
 use Prim.Native.Nat.{ℕ}
 use lib.Dec.{eqb}
 use Rattle.window.specs.declared.Created.{Created}
 use Rattle.window.specs.declared.answers.Step.{Step}
 use Rattle.window.specs.Memory.{Memory}
-use Rattle.window.specs.New.{NewAnswer, made, newResult, newOf}
+use Rattle.window.specs.New.{NewAnswer, made, fresh, newResult, newOf}
 use Rattle.window.specs.New as window
 use Rattle.model.specs.Calls.{Answer, done, new, replaced, absent, found, pair, released, refused}
 use Rattle.model.specs.Contract.{Left}
@@ -42,12 +42,18 @@ pub record Same (s : Step) (r : NumberedStep) : Type 0 where
 unfoldable pub newFrom : NumberedStep → NewAnswer
 newFrom r = cond (eqb (r .answer .code) 0) (made (r .window)) (window.refused (r .answer .first))
 
+-- a refusal comes with a header of zeros
+abbrev pub Zeros : NumberedStep → Type 0
+Zeros r = eqb (r .answer .code) 0 ≡ false → r .window ≡ fresh 0 0 0
+
 -- what new answered, and the same in numbers
 pub record Made (a : Created) (r : NumberedStep) : Type 0 where
   pub answer : newFrom r ≡ window.answerOf a
   pub count : r .count ≡ 0
+  pub zeros : Zeros r
 
 -- what packet_window_new gives over the memory m, which is m′ after the call
 pub record Creates (r : NumberedStep) (m : Memory) (size n demoteAt : ℕ) (m′ : Memory) : Type 0 where
   pub result : newResult (newFrom r) m′ ≡ newOf m size n demoteAt
   pub count : r .count ≡ 0
+  pub zeros : Zeros r

@@ -1,4 +1,5 @@
 use mathlib.Core.Path.{refl, ap}
+use mathlib.Core.Bool.{true≢false}
 use Rattle.window.specs.New.{refused}
 use Rattle.exports.specs.Numbers.{newFrom}
 use Rattle.exports.proofs.Carrying.{made-as}
@@ -47,14 +48,14 @@ numbered-step-requires-2 c κs = search needs
 -- src/lib.rt:133:1
 returns : tie.Need-returns
 unfolding newFrom
-returns c = made-as _ _ _ _ _ _ (c .numbered-step .ensures) (c .before .numbered .ensures) (c .before .before .before .made .given .1) refl
+returns c = made-as _ _ _ _ _ _ (c .numbered-step .ensures) (c .before .numbered .ensures) (c .before .before .before .made .given .1) refl (λ k. absurd (true≢false k))
 
 -- src/lib.rt:133:1
 returns-2 : tie.Need-returns-2
 unfolding newFrom
 returns-2 c =
     made-as _ _ _ _ _ _ (c .numbered-step2 .ensures) (c .before .numbered2 .ensures) (c .before .before .before .before .before .made2 .given .1)
-    (ap refused (c .before .before .refusal-number .ensures))
+    (ap refused (c .before .before .refusal-number .ensures)) (λ k. c .before .before .before .no-window .ensures)
 
 pub created-spec : {M : Type 1} → statement M
 created-spec =
