@@ -15,7 +15,11 @@ use Rattle.calls.specs.Answers.{answerOf, stateOf}
 use Rattle.exports.specs.declared.NumberedAnswer.{NumberedAnswer}
 use Rattle.exports.specs.declared.NumberedStep.{NumberedStep}
 
--- document 01's answer for each code; 7 is a refusal, with its number
+-- a refusal with its number; any code but 7 is none, and reads as the number 0, which no refusal has
+abbrev pub refusalFrom : NumberedAnswer → ℕ
+refusalFrom a = cond (eqb (a .code) 7) (a .first) 0
+
+-- document 01's answer for each code
 unfoldable pub answerFrom : NumberedAnswer → Answer
 answerFrom a =
     cond (eqb (a .code) 0) done
@@ -25,7 +29,7 @@ answerFrom a =
     (cond (eqb (a .code) 4) (found (a .first))
     (cond (eqb (a .code) 5) (pair (a .first) (a .second) (a .third))
     (cond (eqb (a .code) 6) (released (a .first) (a .second))
-    (refused (a .first))))))))
+    (refused (refusalFrom a))))))))
 
 abbrev pub numbersLeft : NumberedStep → List ℕ → List ℕ → List ℕ → List ℕ → List ℕ → Left
 numbersLeft r ss vs pages blocks l = record { answer = answerFrom (r .answer); count = r .count; state = stateOf (r .window) ss vs pages blocks; list = l }
@@ -38,9 +42,9 @@ pub record Same (s : Step) (r : NumberedStep) : Type 0 where
 
 -- ---- new
 
--- code 0 is the new header, any other a refusal
+-- code 0 is the new header
 unfoldable pub newFrom : NumberedStep → NewAnswer
-newFrom r = cond (eqb (r .answer .code) 0) (made (r .window)) (window.refused (r .answer .first))
+newFrom r = cond (eqb (r .answer .code) 0) (made (r .window)) (window.refused (refusalFrom (r .answer)))
 
 -- a refusal comes with a header of zeros
 abbrev pub Zeros : NumberedStep → Type 0

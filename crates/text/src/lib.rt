@@ -14,7 +14,7 @@ pub enum Read {
     Bad,
 }
 
-// The letter of a call and its fields; those that the letter does not take are 0.
+// The letter of a call and its fields, of which the first count, as many as the letter takes.
 pub struct Fields {
     pub letter: u8,
     pub first: u32,
