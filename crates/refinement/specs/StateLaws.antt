@@ -22,15 +22,12 @@ use Rattle.model.specs.Sound.{Sound}
 use Rattle.model.specs.Contract.{State, windowOf, Left, argumentRefusal, lengthsFit, refusal, SameLengths, Does, Meets}
 use Rattle.model.specs.Heads.{Stepped}
 use Rattle.pages.specs.DecodeLaws.{header-at}
-use Rattle.soundness.specs.Change.{NothingPast, Limits, limitsOf, SameLimits, isPoint}
+use Rattle.soundness.specs.Change.{Limits, limitsOf, SameLimits, isPoint}
 use Rattle.soundness.specs.PointLaws.{decode-past, sound-point}
 use Rattle.soundness.specs.LimitLaws.{point-limits}
 use Rattle.refinement.specs.Seen.{positionsOf, Follows, SoundState, StepRefines}
 use Rattle.refinement.specs.PointLaws.{point-follows}
 use Rattle.refinement.specs.AnswerLaws.{isSeven, not-refused-7, never-7}
-
-pub decode-proper : (u : State) → NothingPast (windowOf u)
-decode-proper u = decode-past (u .header) (u .memory)
 
 -- ---- the contract on a sound state
 
@@ -126,7 +123,7 @@ module _ (size : ℕ) (u v : State) (e : Entry) (s : SoundState size u) (t : Ste
     sound-stays = sound-next (sound-point (u .header) (u .memory) (e .call) point (s .sound)) (point-limits (windowOf u) (e .call) point)
 
     pub point-refines : StepRefines size u e v
-    point-refines = follows-refines (point-follows (windowOf u) (s .sound) (decode-proper u) (e .call) point) sound-stays
+    point-refines = follows-refines (point-follows (windowOf u) (s .sound) (decode-past (u .header) (u .memory)) (e .call) point) sound-stays
 
 -- ---- refusal 7
 

@@ -19,7 +19,7 @@ use Rattle.releases.specs.declared.PageReleased.{PageReleased}
 unfoldable pub settledWords : PageWords → PageWords
 settledWords w = cond (eqb (w .occupied) 0) (record { kind = 0; occupied = 0; filled = 0 }) w
 
--- the words of page g and of its block alone may have changed
+-- the lists are as long as they were, and the words past those of page g and of its block are as they were
 pub record Within (pages blocks : List ℕ) (g : ℕ) (pages′ blocks′ : List ℕ) : Type 0 where
   pub pages-long : length pages′ ≡ length pages
   pub blocks-long : length blocks′ ≡ length blocks

@@ -17,7 +17,7 @@ use Rattle.model.specs.Steps.{headerWith}
 use Rattle.model.specs.Sound.{SoundPage, liveIn, retiredIn, Sound}
 use Rattle.soundness.specs.Change.{Proper, noted, marked, Writes, Changes, Alters}
 use Rattle.soundness.specs.SumLaws.{sum-same, sum-part, sum-but}
-use Rattle.soundness.specs.PageLaws.{one-lt, one-true, bit-zero, some-counted, marks-in, retired-counts, marked-retired, same-counts, same-dense}
+use Rattle.soundness.specs.PageLaws.{one-lt, one-true, bit-not-one, some-counted, marks-in, retired-counts, marked-retired, same-counts, same-dense}
 
 -- ---- what is written
 
@@ -93,7 +93,7 @@ module _ (w v : Window) (g : ℕ) (q : Page) (ok : Sound w) (below : g < pagesOf
   marks-hold h l e = one-true (holdsValue (v .pages h)) (sym (noted-is h l) ∙ marks-noted h e)
 
   marks-past : (h : ℕ) → pagesOf w ≤ h → marked v h ≡ 0
-  marks-past h l = bit-zero (v .blocks (h / 64) .retired) (h % 64) (λ e. omega (arith, noted-past h l, marks-noted h e))
+  marks-past h l = bit-not-one (v .blocks (h / 64) .retired) (h % 64) (λ e. omega (arith, noted-past h l, marks-noted h e))
 
   retired-lt : (b : ℕ) → v .blocks b .retired < 2 ^ 64
   retired-lt b = elim (ℕ-discrete b (g / 64)) [ yes e ↦ rw e (c .marking .marks-fit) | no e ↦ rw (wrote .other-blocks b e) (ok .retired-fits b) ]
@@ -152,7 +152,7 @@ module _ (w v : Window) (g : ℕ) (q : Page) (ok : Sound w) (below : g < pagesOf
       (λ i l.
       let y : (64 * b + i) / 64 ≡ b = omega arith in
       let r : (64 * b + i) % 64 ≡ i = omega arith in
-      bit-zero (v .blocks b .retired) i (λ e. none-marked z (64 * b + i) (rw (y, r) e)) ∙ sym (bit-none i))
+      bit-not-one (v .blocks b .retired) i (λ e. none-marked z (64 * b + i) (rw (y, r) e)) ∙ sym (bit-none i))
 
   -- of v, with the parts of the header that are w's
   changed-sound : Sound (window (headerWith (w .header) (v .header .len) (v .header .«retired_held») (w .header .«release_cursor») (v .header .«nonempty_summary») (v .header .«retired_blocks») (v .header .promotions) (v .header .demotions)) (v .pages) (v .blocks))
@@ -170,7 +170,7 @@ module _ (w v : Window) (g : ℕ) (q : Page) (ok : Sound w) (below : g < pagesOf
     nonempty-bits = noted-past;
     retired-bits = marks-past;
     summary-bits = λ b l. summary-other w v g q wrote b (λ e. omega (arith, own-block)) ∙ ok .summary-bits b l;
-    retired-block-bits = λ b l. bit-zero (v .header .«retired_blocks») b (λ e. omega (arith, c .marking .block-marks b e, ok .retired-block-bits b l));
+    retired-block-bits = λ b l. bit-not-one (v .header .«retired_blocks») b (λ e. omega (arith, c .marking .block-marks b e, ok .retired-block-bits b l));
     no-block-mark = c .marking .no-block-mark;
     no-page-mark = λ z b l. no-marks z b;
     nonempty-fits = nonempty-lt;

@@ -27,8 +27,8 @@ pub one-true : (b : Bool) → one b ≡ 1 → b ≡ true
 one-true true e = refl
 one-true false e = absurd (omega arith)
 
-pub bit-zero : (w k : ℕ) → (bitAt w k ≡ 1 → ⊥) → bitAt w k ≡ 0
-bit-zero w k h = omega (arith, bit-lt w k, h)
+pub bit-not-one : (w k : ℕ) → (bitAt w k ≡ 1 → ⊥) → bitAt w k ≡ 0
+bit-not-one w k h = omega (arith, bit-lt w k, h)
 
 -- ---- one page
 
