@@ -11,14 +11,13 @@ use window::AdaptiveReceiverPacketWindow;
 use window::Created;
 use window::answers::Answer;
 use window::answers::Step;
-use window::refusals::Refusal;
+use window::refusals::refusal_number;
 ghost use mathlib.Core.Path.{_≡_};
 ghost use mathlib.Core.List.{[]};
 ghost use lib.Dec.{leb};
 ghost use lib.ListN.{length};
 ghost use Rattle.window.specs.Memory.{memory};
 ghost use Rattle.window.specs.New.{fresh};
-ghost use Rattle.window.specs.Refusals.{refusalNumber};
 ghost use Rattle.model.specs.Calls.{insert as insertOf, get as getOf, exchange as exchangeOf, remove as removeOf, successor-after, first-from, iter as iterOf};
 ghost use Rattle.model.specs.Contract.{Meets};
 ghost use Rattle.calls.specs.Answers.{answerOf, stateOf};
@@ -40,22 +39,6 @@ pub struct NumberedStep {
     pub window: AdaptiveReceiverPacketWindow,
     pub answer: NumberedAnswer,
     pub count: u32,
-}
-
-// Document 01's number of a refusal.
-pub fn refusal_number(why: Refusal) -> u32
-    ensures { λ r. ⌜ r ≡ refusalNumber why ⌝ }
-{
-    match why {
-        Refusal::WindowSize => 1,
-        Refusal::SparseCells => 2,
-        Refusal::DemoteAt => 3,
-        Refusal::Occupied => 4,
-        Refusal::RangeCount => 5,
-        Refusal::ShortMemory => 6,
-        Refusal::Unsound => 7,
-        Refusal::Budget => 8,
-    }
 }
 
 fn numbered(code: u32, first: u32, second: u32, third: u32) -> NumberedAnswer

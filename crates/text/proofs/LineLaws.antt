@@ -14,7 +14,7 @@ use lib.Seq.{drop-cons, drop-drop, getD-drop}
 use borrow.Author.Tests.{eq-eqb, ne-eqb}
 use Rattle.text.specs.Fields.{fieldOf}
 use Rattle.text.specs.Lines.{Line, line, joined, parts, both, numbers, among, fieldCount, counted, ofParts, lineOf}
-use Rattle.text.specs.Contracts.{countOr4, fieldCountOf, NextTab}
+use Rattle.text.specs.Contracts.{countOr4, fieldCountOf, NextByte}
 
 -- the parts after a part that ends where the bytes begin
 abbrev pub after : List ℕ → List (List ℕ)
@@ -207,7 +207,7 @@ module _ (b : ℕ) (ns bs : List ℕ) (a : ℕ) where
   whole l f h = rw (drop-all a bs l, append-nil ns) (counted-same b (fieldCount b) ns f h)
 
 -- a field from the tab at a to e
-module _ (bs : List ℕ) (a e : ℕ) (l : a < length bs) (t : getD bs a 0 ≡ 9) (n : NextTab bs (a + 1) e) where
+module _ (bs : List ℕ) (a e : ℕ) (l : a < length bs) (t : getD bs a 0 ≡ 9) (n : NextByte bs (a + 1) 9 e) where
   next-field : fieldsAfter (drop a bs) ≡ both (fieldOf (take (e - (a + 1)) (drop (a + 1) bs))) (fieldsAfter (drop e bs))
   next-field =
       let k : a + 1 + (e - (a + 1)) ≡ e = omega (arith, n .from-le) in

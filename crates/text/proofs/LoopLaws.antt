@@ -9,7 +9,7 @@ use lib.ListN.{length, getD, set, take, drop, length-set}
 use lib.Seq.{take-suc-set, length-take-le}
 use Rattle.text.specs.Fields.{fieldOf}
 use Rattle.text.specs.Lines.{line, lineOf}
-use Rattle.text.specs.Contracts.{fieldCountOf, NextTab}
+use Rattle.text.specs.Contracts.{fieldCountOf, NextByte}
 use Rattle.text.proofs.LineLaws.{restOf, begins, no-letter, ended, no-tab, too-long, whole, bad-field, read-field}
 
 -- i fields of the line are read, up to a, and wrote the first i of ns
@@ -48,11 +48,11 @@ module _ (bs : List ℕ) (b count : ℕ) (ns : List ℕ) (a i : ℕ) (s : SoFar 
   pub too-many : count ≤ i → a < length bs → none ≡ lineOf bs
   too-many g l = sym (too-long b (take i ns) bs a l (omega (arith, read, s .takes, s .in-count))) ∙ s .rest
 
-  pub not-field : (e : ℕ) → a < length bs → getD bs a 0 ≡ 9 → NextTab bs (a + 1) e
+  pub not-field : (e : ℕ) → a < length bs → getD bs a 0 ≡ 9 → NextByte bs (a + 1) 9 e
       → none ≡ fieldOf (take (e - (a + 1)) (drop (a + 1) bs)) → none ≡ lineOf bs
   not-field e l t n f = sym (bad-field bs a e l t n b (take i ns) f) ∙ s .rest
 
-  pub turn : (e v : ℕ) → i < count → a < length bs → getD bs a 0 ≡ 9 → NextTab bs (a + 1) e
+  pub turn : (e v : ℕ) → i < count → a < length bs → getD bs a 0 ≡ 9 → NextByte bs (a + 1) 9 e
       → some v ≡ fieldOf (take (e - (a + 1)) (drop (a + 1) bs)) → SoFar bs b count (set ns i v) e (i + 1)
   turn e v h l t n f = record {
     long = length-set ns i v ∙ s .long;

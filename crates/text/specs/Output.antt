@@ -14,6 +14,12 @@ digitsUpTo (suc f) n = elim (ltb n 10) [ true ↦ (48 + n) ∷ [] | false ↦ di
 abbrev pub digits : ℕ → List ℕ
 digits n = digitsUpTo 19 n
 
+-- "sequence:value pairs": a tab, a sequence, a colon and its value, for each
+unfoldable pub paired : List ℕ → List ℕ → List ℕ
+paired [] vs = []
+paired (s ∷ ss) [] = []
+paired (s ∷ ss) (v ∷ vs) = (9 ∷ digits s) ++ ((58 ∷ digits v) ++ paired ss vs)
+
 -- a tab and a number, for each
 unfoldable pub tabbed : List ℕ → List ℕ
 tabbed [] = []

@@ -4,7 +4,7 @@ pub mod print;
 ghost use mathlib.Core.Path.{_≡_};
 ghost use Prim.Native.Nat.{_≤_};
 ghost use lib.ListN.{length};
-ghost use Rattle.text.specs.Contracts.{fieldCountOf, fieldAnswer, lineAnswer, NextTab};
+ghost use Rattle.text.specs.Contracts.{fieldCountOf, fieldAnswer, lineAnswer, NextByte, Appends};
 ghost use Rattle.text.specs.Fields.{fieldOf};
 ghost use Rattle.text.specs.Lines.{lineOf};
 
@@ -80,19 +80,40 @@ pub fn field(bytes: &[u8]) -> Read
     Read::Number(number as u32)
 }
 
-// The place of the first tab from `from` on; the length if there is none.
-fn next_tab(line: &[u8], from: usize) -> usize
-    requires { ⌜ from ≤ length (now line) ⌝ }
-    ensures { λ r. ⌜ NextTab (now (line .entry)) from r ⌝ }
+// The place of the first such byte from `from` on; the length if there is none.
+pub fn next_byte(bytes: &[u8], from: usize, byte: u8) -> usize
+    requires { ⌜ from ≤ length (now bytes) ⌝ }
+    ensures { λ r. ⌜ NextByte (now (bytes .entry)) from byte r ⌝ }
 {
     let mut i = from;
-    while i < line.len() {
-        if line[i] == b'\t' {
+    while i < bytes.len() {
+        if bytes[i] == byte {
             return i;
         }
         i += 1;
     }
     i
+}
+
+// `part` after the first `have` bytes of a line. One more than the line's places, now and from then on, if it has no place for them.
+pub fn append(line: &mut [u8], have: usize, part: &[u8]) -> usize
+    ensures { λ r. ⌜ Appends (now (line .entry)) have (now (part .entry)) r (now (line .exit)) ⌝ }
+{
+    let places = line.len();
+    if places < have {
+        return places + 1;
+    }
+    if places - have < part.len() {
+        return places + 1;
+    }
+    let mut to = have;
+    let mut i: usize = 0;
+    while i < part.len() {
+        line[to] = part[i];
+        to += 1;
+        i += 1;
+    }
+    to
 }
 
 // What a line says.
@@ -118,7 +139,7 @@ pub fn parse(line: &[u8]) -> Parsed
             return Parsed::Bad;
         }
         let from = at + 1;
-        let to = next_tab(line, from);
+        let to = next_byte(line, from, b'\t');
         let read = field(&line[from..to]);
         let Read::Number(number) = read else {
             return Parsed::Bad;

@@ -5,7 +5,7 @@ use crate::memory::capacity;
 use crate::memory::page_count;
 ghost use mathlib.Core.Path.{_≡_};
 ghost use Prim.Native.Nat.{_≤_};
-ghost use Rattle.window.specs.Refusals.{verdictNumber, limits as limitsOf, longEnough, fits as fitsOf, fitsWithList};
+ghost use Rattle.window.specs.Refusals.{refusalNumber, verdictNumber, limits as limitsOf, longEnough, fits as fitsOf, fitsWithList};
 
 // The refusals of document 01, in the order of their numbers 1 to 8 (`refusalNumber`).
 pub enum Refusal {
@@ -17,6 +17,22 @@ pub enum Refusal {
     ShortMemory,
     Unsound,
     Budget,
+}
+
+// Document 01's number of a refusal.
+pub fn refusal_number(why: Refusal) -> u32
+    ensures { λ r. ⌜ r ≡ refusalNumber why ⌝ }
+{
+    match why {
+        Refusal::WindowSize => 1,
+        Refusal::SparseCells => 2,
+        Refusal::DemoteAt => 3,
+        Refusal::Occupied => 4,
+        Refusal::RangeCount => 5,
+        Refusal::ShortMemory => 6,
+        Refusal::Unsound => 7,
+        Refusal::Budget => 8,
+    }
 }
 
 // What a test for refusals answers.

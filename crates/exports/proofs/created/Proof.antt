@@ -11,7 +11,6 @@ use Rattle.exports.proofs.created.Lts as lts
 use Rattle.exports.proofs.no_window.Reads as no-window-reads
 use Rattle.exports.proofs.numbered.Reads as numbered-reads
 use Rattle.exports.proofs.numbered_step.Reads as numbered-step-reads
-use Rattle.exports.proofs.refusal_number.Reads as refusal-number-reads
 
 -- src/lib.rt:137:22
 enum-known-made : tie.Need-enum-known-made

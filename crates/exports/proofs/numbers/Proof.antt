@@ -8,7 +8,6 @@ use Rattle.exports.proofs.numbers.Tie as tie
 use Rattle.exports.proofs.numbers.Reads as reads
 use Rattle.exports.proofs.numbers.Lts as lts
 use Rattle.exports.proofs.numbered.Reads as numbered-reads
-use Rattle.exports.proofs.refusal_number.Reads as refusal-number-reads
 
 -- src/lib.rt:74:25
 enum-told : tie.Need-enum-told

@@ -52,8 +52,8 @@ add-from : tie.Need-add-from Inv-loop μ-loop
 add-from c = search needs
 
 -- src/lib.rt:119:13
-next-tab-requires : tie.Need-next-tab-requires Inv-loop μ-loop
-next-tab-requires c κs = search needs
+next-byte-requires : tie.Need-next-byte-requires Inv-loop μ-loop
+next-byte-requires c κs = search needs
 
 -- src/lib.rt:120:26
 sub-field : tie.Need-sub-field Inv-loop μ-loop
@@ -82,8 +82,8 @@ enum-told c = search needs
 -- src/lib.rt:122:13
 returns-5 : tie.Need-returns-5 Inv-loop μ-loop
 returns-5 c =
-    let t : tie.After-next-tab Inv-loop μ-loop = c .before .before .before .before in
-    laws.not-field _ _ _ _ _ _ (t .before .before .before .before .before .loop .inv) _ (t .before .before .before .if3 .left) (t .before .if4 .left) (t .next-tab .ensures)
+    let t : tie.After-next-byte Inv-loop μ-loop = c .before .before .before .before in
+    laws.not-field _ _ _ _ _ _ (t .before .before .before .before .before .loop .inv) _ (t .before .before .before .if3 .left) (t .before .if4 .left) (t .next-byte .ensures)
     (sym (ap fieldAnswer (c .enum-told .given .1)) ∙ c .before .before .field .ensures)
 
 -- src/lib.rt:124:9
@@ -105,8 +105,8 @@ loop-less c = search needs
 -- src/lib.rt:111:5
 loop-again : tie.Need-loop-again Inv-loop μ-loop
 loop-again c =
-    let t : tie.After-next-tab Inv-loop μ-loop = c .before .before .before .before .before in
-    laws.turn _ _ _ _ _ _ (t .before .before .before .before .before .loop .inv) _ _ (t .before .before .before .before .loop-test .taken) (t .before .before .before .if3 .left) (t .before .if4 .left) (t .next-tab .ensures)
+    let t : tie.After-next-byte Inv-loop μ-loop = c .before .before .before .before .before in
+    laws.turn _ _ _ _ _ _ (t .before .before .before .before .before .loop .inv) _ _ (t .before .before .before .before .loop-test .taken) (t .before .before .before .if3 .left) (t .before .if4 .left) (t .next-byte .ensures)
     (sym (ap fieldAnswer (c .before .read .given .1)) ∙ c .before .before .before .field .ensures)
 
 -- src/lib.rt:129:9
@@ -144,7 +144,7 @@ parse-spec =
     shared-slice-read-if4
     returns-4
     add-from
-    next-tab-requires
+    next-byte-requires
     sub-field
     part-field-start
     part-field-end

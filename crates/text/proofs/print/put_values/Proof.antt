@@ -1,75 +1,64 @@
 -- While the loop runs, the first i values are put. Assumes nothing.
-use borrow.Author.Needs.{needs}
-use mathlib.Core.Path.{_≡_, _∙_}
-use Prim.Native.Nat.{_-_}
+use Prim.Native.Nat.{_-_, _≤_}
+use mathlib.Core.Path.{_≡_, refl, _∙_}
 use native.Mathlib.Omega.{arith}
-use Rattle.text.proofs.PrintLaws.{PutSoFar, start, turn}
+use borrow.Author.Needs.{needs}
+use Rattle.text.proofs.PrintLaws.{PutSoFar, start, turn, tabbed-none, valuesSoFar, values-more, marked-few}
 use Rattle.text.proofs.print.put_values.Statement.{statement}
 use Rattle.text.proofs.print.put_values.Tie as tie
 
 abbrev Inv-loop : tie.InvT-loop
-Inv-loop out₀ at values count to₀ i₀ out to i = PutSoFar at count values out₀ i to out
+Inv-loop out₀ at values count to₀ i₀ out to i = (i ≤ count) × PutSoFar at 21 (valuesSoFar values) out₀ i to out
 
 abbrev μ-loop : tie.MeasureT-loop
 μ-loop out₀ at values count to₀ i₀ out to i = count - i
 
--- src/print.rt:47:5
+-- src/print.rt:54:5
 loop-holds : tie.Need-loop-holds Inv-loop μ-loop
-loop-holds c = start _ _ _ _
+loop-holds c = (omega arith, start _ 21 (valuesSoFar (c .before .before .args .values .now)) _ tabbed-none)
 
--- src/print.rt:48:13
-put-byte-requires : tie.Need-put-byte-requires Inv-loop μ-loop
-put-byte-requires c κs =
-    let s = c .before .before .before .before .before in
-    let i = c .before .before .loop .inv in
-    omega (arith, s .pre .1, i .long, i .room, c .before .loop-test .taken)
+-- src/print.rt:55:41
+mul-put-marked : tie.Need-mul-put-marked Inv-loop μ-loop
+mul-put-marked c = search needs
 
--- src/print.rt:49:36
-mul-put-number : tie.Need-mul-put-number Inv-loop μ-loop
-mul-put-number c = search needs
+-- src/print.rt:55:41
+shared-slice-read-put-marked : tie.Need-shared-slice-read-put-marked Inv-loop μ-loop
+shared-slice-read-put-marked c = search needs
 
--- src/print.rt:49:36
-shared-slice-read-put-number : tie.Need-shared-slice-read-put-number Inv-loop μ-loop
-shared-slice-read-put-number c = search needs
+-- src/print.rt:55:41
+cast-put-marked : tie.Need-cast-put-marked Inv-loop μ-loop
+cast-put-marked c = omega (arith, c .shared-slice-known2 .given (c .before .before .before .loop .i) .fits)
 
--- src/print.rt:49:36
-cast-put-number : tie.Need-cast-put-number Inv-loop μ-loop
-cast-put-number c = omega (arith, c .shared-slice-known2 .given (c .before .before .before .before .before .before .before .loop .i) .fits)
+-- src/print.rt:55:9
+put-marked-requires : tie.Need-put-marked-requires Inv-loop μ-loop
+put-marked-requires c κs = search needs
 
--- src/print.rt:49:9
-put-number-requires : tie.Need-put-number-requires Inv-loop μ-loop
-put-number-requires c κs =
-    let s = c .before .before .before .before .before .before .before .before .before .before in
-    let i = c .before .before .before .before .before .before .before .loop .inv in
-    let p = c .before .before .before .before .put-byte in
-    omega (arith, s .pre .1, i .long, i .room, c .before .before .before .before .before .before .loop-test .taken, p .ensures .end, p .kept .0)
-
--- src/print.rt:50:9
+-- src/print.rt:56:9
 add-i : tie.Need-add-i Inv-loop μ-loop
 add-i c = search needs
 
--- src/print.rt:47:5
+-- src/print.rt:54:5
 loop-less : tie.Need-loop-less Inv-loop μ-loop
 loop-less c = search needs
 
--- src/print.rt:47:5
+-- src/print.rt:54:5
 loop-again : tie.Need-loop-again Inv-loop μ-loop
 loop-again c =
-    let n = c .before .before .put-number in
-    let p = c .before .before .before .before .before .before .before .put-byte in
-    let t = c .before .before .before .before .before .before .before .before .before in
-    turn _ _ _ _ _ _ _ _ _ _ _ (t .before .loop .inv) (t .loop-test .taken) (t .before .before .before .before .pre .0) (p .ensures) (n .ensures) (n .kept .0 ∙ p .kept .0)
+    let m = c .before .before .put-marked in
+    let t = c .before .before .before .before .before .loop-test .taken in
+    let s = c .before .before .before .before .before .before .loop .inv in
+    (omega (arith, t), turn _ 21 (valuesSoFar (c .before .before .before .before .before .before .before .before .before .args .values .now)) _ _ _ _ _ _ _ (s .1) (values-more _ (c .before .before .before .before .before .before .loop .i) (omega (arith, t, c .before .before .before .before .before .before .before .before .before .pre .0))) (marked-few 9 _) (m .ensures) (m .kept .0))
 
--- src/print.rt:41:1
+-- src/print.rt:48:1
 same-length : tie.Need-same-length Inv-loop μ-loop
-same-length c = c .before .loop .inv .long
+same-length c = c .before .loop .inv .1 .long
 
--- src/print.rt:41:1
+-- src/print.rt:48:1
 returns : tie.Need-returns Inv-loop μ-loop
 returns c =
     let i = c .before .loop .inv in
-    let e : c .before .loop .i ≡ c .before .before .before .before .args .count = omega (arith, i .few, c .loop-test .left) in
-    rw e at (i .puts)
+    let e : c .before .loop .i ≡ c .before .before .before .before .args .count = omega (arith, i .0, c .loop-test .left) in
+    rw e at (i .1 .puts)
 
 pub put-values-spec : {M : Type 1} → statement M
 put-values-spec =
@@ -78,11 +67,10 @@ put-values-spec =
     Inv-loop
     μ-loop
     loop-holds
-    put-byte-requires
-    mul-put-number
-    shared-slice-read-put-number
-    cast-put-number
-    put-number-requires
+    mul-put-marked
+    shared-slice-read-put-marked
+    cast-put-marked
+    put-marked-requires
     add-i
     loop-less
     loop-again

@@ -1,18 +1,18 @@
--- No byte that the loop has passed is a tab. Assumes nothing.
+-- No byte that the loop has passed is the one looked for. Assumes nothing.
 use Prim.Native.Nat.{ℕ, _≤_, _<_, _-_}
 use mathlib.Core.Path.{_≡_}
 use native.Mathlib.Omega.{arith}
 use borrow.Author.Count.{below-more}
 use borrow.Author.Needs.{needs}
 use lib.ListN.{length, getD}
-use Rattle.text.proofs.next_tab.Statement.{statement}
-use Rattle.text.proofs.next_tab.Tie as tie
+use Rattle.text.proofs.next_byte.Statement.{statement}
+use Rattle.text.proofs.next_byte.Tie as tie
 
 abbrev Inv-loop : tie.InvT-loop
-Inv-loop line from i₀ i = (from ≤ i) × (i ≤ length line) × ((k : ℕ) → k < i → from ≤ k → getD line k 0 ≡ 9 → ⊥)
+Inv-loop bytes from byte i₀ i = (from ≤ i) × (i ≤ length bytes) × ((k : ℕ) → k < i → from ≤ k → getD bytes k 0 ≡ byte → ⊥)
 
 abbrev μ-loop : tie.MeasureT-loop
-μ-loop line from i₀ i = length line - i
+μ-loop bytes from byte i₀ i = length bytes - i
 
 -- src/lib.rt:87:5
 loop-holds : tie.Need-loop-holds Inv-loop μ-loop
@@ -52,8 +52,8 @@ returns-2 c = record {
   found = λ l. absurd (omega arith);
 }
 
-pub next-tab-spec : {M : Type 1} → statement M
-next-tab-spec =
+pub next-byte-spec : {M : Type 1} → statement M
+next-byte-spec =
     tie.close
     (tie.spec
     Inv-loop
