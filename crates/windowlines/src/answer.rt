@@ -1,0 +1,206 @@
+// One call and its line.
+use lines::put_line;
+use lines::put_list;
+use lines::put_unknown;
+use points::exchange::exchange;
+use points::insert::insert;
+use points::remove::remove;
+use reads::first_from;
+use reads::get;
+use reads::iter;
+use reads::successor_after;
+use text::Fields;
+use window::AdaptiveReceiverPacketWindow;
+use window::Created;
+use window::answers::Answer;
+use window::answers::Step;
+
+// The header after a line, and the place after the output so far.
+pub struct Answered {
+    pub window: AdaptiveReceiverPacketWindow,
+    pub at: usize,
+}
+
+// What a call did; Unknown for a letter that has none.
+pub enum Called {
+    Stepped(Step),
+    Unknown,
+}
+
+// The call of a letter other than n and l.
+fn call(
+    w: AdaptiveReceiverPacketWindow,
+    sequences: &mut [u32; 4096],
+    values: &mut [u32; 4096],
+    pages: &mut [u64; 192],
+    blocks: &mut [u64; 3],
+    returned: &mut [u32; 384],
+    f: Fields,
+) -> Called {
+    let first = f.first;
+    let second = f.second;
+    let letter = f.letter;
+    match letter {
+        b'i' => Called::Stepped(insert(
+            w,
+            sequences,
+            values,
+            pages,
+            blocks,
+            returned,
+            first,
+            second,
+        )),
+        b'g' => Called::Stepped(get(w, sequences, values, pages, blocks, first)),
+        b'r' => Called::Stepped(remove(w, sequences, values, pages, blocks, first)),
+        b's' => Called::Stepped(successor_after(w, sequences, values, pages, blocks, first)),
+        b'f' => Called::Stepped(first_from(w, sequences, values, pages, blocks, first)),
+        b'e' => Called::Stepped(exchange(w, sequences, values, pages, blocks, first, second)),
+        _ => Called::Unknown,
+    }
+}
+
+// A line that is no call.
+fn unknown(w: AdaptiveReceiverPacketWindow, out: &mut [u8; 262144], at: usize) -> Answered {
+    Answered {
+        window: w,
+        at: put_unknown(out, at),
+    }
+}
+
+// n: a new window, or the refusal with the counts of the window before it, which stays.
+fn create(
+    w: AdaptiveReceiverPacketWindow,
+    sequences: &mut [u32; 4096],
+    values: &mut [u32; 4096],
+    pages: &mut [u64; 192],
+    blocks: &mut [u64; 3],
+    returned: &[u32; 384],
+    out: &mut [u8; 262144],
+    at: usize,
+    f: Fields,
+) -> Answered {
+    if 4096 < f.first {
+        return unknown(w, out, at);
+    }
+    let made = AdaptiveReceiverPacketWindow::new(
+        sequences,
+        values,
+        pages,
+        blocks,
+        f.first,
+        f.second,
+        f.third,
+    );
+    match made {
+        Created::New(window) => Answered {
+            window,
+            at: put_line(out, at, b'n', Answer::Done, window, returned, 0),
+        },
+        Created::Refused(why) => Answered {
+            window: w,
+            at: put_line(out, at, b'n', Answer::Refused(why), w, returned, 0),
+        },
+    }
+}
+
+// The live pairs, in the order of iter from 0 until done: how many they are.
+fn live_pairs(
+    w: AdaptiveReceiverPacketWindow,
+    sequences: &[u32; 4096],
+    values: &[u32; 4096],
+    pages: &[u64; 192],
+    blocks: &[u64; 3],
+    listed_sequences: &mut [u32; 4096],
+    listed_values: &mut [u32; 4096],
+) -> usize {
+    let mut cell: u32 = 0;
+    let mut count: usize = 0;
+    while count < 4096 {
+        let step = iter(w, sequences, values, pages, blocks, cell);
+        let outcome = step.answer;
+        let answer = outcome.answer;
+        let Answer::Pair(sequence, value, next) = answer else {
+            break;
+        };
+        listed_sequences[count] = sequence;
+        listed_values[count] = value;
+        cell = next;
+        count += 1;
+    }
+    count
+}
+
+// A letter other than n, on a window.
+fn answer_call(
+    w: AdaptiveReceiverPacketWindow,
+    sequences: &mut [u32; 4096],
+    values: &mut [u32; 4096],
+    pages: &mut [u64; 192],
+    blocks: &mut [u64; 3],
+    returned: &mut [u32; 384],
+    out: &mut [u8; 262144],
+    at: usize,
+    f: Fields,
+) -> Answered {
+    let letter = f.letter;
+    let called = call(w, sequences, values, pages, blocks, returned, f);
+    match called {
+        Called::Stepped(step) => {
+            let window = step.window;
+            let outcome = step.answer;
+            let given = outcome.answer;
+            Answered {
+                window,
+                at: put_line(
+                    out,
+                    at,
+                    letter,
+                    given,
+                    window,
+                    returned,
+                    outcome.count as usize,
+                ),
+            }
+        }
+        Called::Unknown => unknown(w, out, at),
+    }
+}
+
+// A call's line. Before an accepted n there is no window, and its header has window_size 0.
+pub fn answer(
+    w: AdaptiveReceiverPacketWindow,
+    sequences: &mut [u32; 4096],
+    values: &mut [u32; 4096],
+    pages: &mut [u64; 192],
+    blocks: &mut [u64; 3],
+    returned: &mut [u32; 384],
+    listed_sequences: &mut [u32; 4096],
+    listed_values: &mut [u32; 4096],
+    out: &mut [u8; 262144],
+    at: usize,
+    f: Fields,
+) -> Answered {
+    if f.letter == b'n' {
+        return create(w, sequences, values, pages, blocks, returned, out, at, f);
+    }
+    if w.window_size == 0 {
+        return unknown(w, out, at);
+    }
+    if f.letter == b'l' {
+        let count = live_pairs(
+            w,
+            sequences,
+            values,
+            pages,
+            blocks,
+            listed_sequences,
+            listed_values,
+        );
+        return Answered {
+            window: w,
+            at: put_list(out, at, w, listed_sequences, listed_values, count),
+        };
+    }
+    answer_call(w, sequences, values, pages, blocks, returned, out, at, f)
+}

@@ -1,0 +1,150 @@
+#!/usr/bin/env python3
+"""The line program, as built, against recorded answers and against the oracle.
+
+  tests/windowlines.py recorded   recorded files with no letter but the program's own, byte for byte
+  tests/windowlines.py oracle     recorded and generated files cut down to the program's letters, the
+                                  same bytes in small writes, lines no program should be asked, and writes that fail
+
+A letter whose call the program does not have yet is cut out of a file, with its line.
+"""
+import random
+import subprocess
+import sys
+from pathlib import Path
+
+ROOT = Path(__file__).resolve().parent.parent
+PROGRAM = ROOT / "target/bin/windowlines"
+ORACLE = ROOT / "oracle/target/oracle"
+GENERATE = ROOT / "oracle/target/generate"
+RECORDED = ROOT / "tests/recorded"
+NOT_YET = b"dqbvc"
+GENERATED = 320
+
+
+def split_at_line_feeds(data):
+    parts = data.split(b"\n")
+    whole = [part + b"\n" for part in parts[:-1]]
+    return whole + [parts[-1]] if parts[-1] else whole
+
+
+def has_call(line):
+    return line[:1] not in NOT_YET or line[:1] == b""
+
+
+def cut(data):
+    return b"".join(line for line in split_at_line_feeds(data) if has_call(line))
+
+
+def run(command, data):
+    done = subprocess.run([str(command)], input=data, capture_output=True, timeout=120)
+    if done.returncode != 0:
+        raise SystemExit(f"{command} ended with status {done.returncode}: {done.stderr[:300]!r}")
+    return done.stdout
+
+
+def compare(name, got, wanted):
+    if got == wanted:
+        return
+    for number, (a, b) in enumerate(zip(split_at_line_feeds(got), split_at_line_feeds(wanted)), 1):
+        if a != b:
+            raise SystemExit(f"{name}, line {number}: the program says {a[:200]!r}, wanted is {b[:200]!r}")
+    raise SystemExit(f"{name}: the program wrote {len(got)} bytes, wanted are {len(wanted)}")
+
+
+def recorded_inputs():
+    return sorted(path for path in RECORDED.glob("*.in") if not path.name.endswith(".large.in"))
+
+
+def check_recorded():
+    """Files that hold no letter but the program's own: their recorded answers."""
+    files = calls = 0
+    for path in recorded_inputs():
+        data = path.read_bytes()
+        if cut(data) != data:
+            continue
+        compare(path.name, run(PROGRAM, data), path.with_suffix(".out").read_bytes())
+        files += 1
+        calls += len(split_at_line_feeds(data))
+    if files < 12:
+        raise SystemExit(f"only {files} recorded files have no letter but the program's own")
+    print(f"{calls} lines of {files} files")
+
+
+def generated(seed):
+    options = [[], ["--small"], ["--small", "--pairs"], ["--clean"], ["--small", "--clean"]][seed % 5]
+    calls = [60, 300, 1000, 3000][seed % 4]
+    command = [str(GENERATE), str(seed), str(calls)] + options
+    return subprocess.run(command, capture_output=True, check=True).stdout
+
+
+def odd_inputs():
+    """Bytes that are no calls, and lines that straddle the reads of 65,536 bytes."""
+    begin = b"n\t64\t2\t1\ni\t5\t50\n"
+    yield b""
+    yield b"\n"
+    yield b"\n\n\n" + begin
+    yield begin + b"g\t5"
+    yield begin + b"g\t5\r\ng\t5\n"
+    yield begin + b"\tg\t5\ng 5\ng\t5\t\ng\t\ng\t05\ng\t+5\ng\t-5\ng\t5.0\n"
+    yield begin + b"g\t4294967295\ng\t4294967296\ng\t42949672950\ng\t99999999999999999999999999999999\n"
+    yield begin + b"x\t1\nN\t64\t2\t1\n\x00\ng\x00\t5\n\xff\xfe\n"
+    yield b"i\t5\t50\nl\nn\t0\t2\t1\nn\t64\t0\t0\nn\t64\t64\t1\nn\t64\t2\t3\nl\nn\t4097\t2\t1\nn\t4096\t2\t1\nl\nn\t0\t1\t1\nl\n"
+    for size in (33, 34, 35, 63, 64, 65, 66, 1000, 65535, 65536, 65537, 200000):
+        yield begin + b"g\t" + b"5" * (size - 2) + b"\ng\t5\n" + b"g" * size + b"\ng\t5"
+    line = b"g\t5\n"
+    for shift in range(8):
+        yield begin + b"\n" * shift + line * 40000
+    yield begin + b"g\t5\n" * 16380 + b"x" * 3 * 65536 + b"\ng\t5\n"
+
+
+def in_small_writes(data, seed):
+    """The same bytes in writes of a few bytes each, so that lines straddle reads."""
+    chance = random.Random(seed)
+    process = subprocess.Popen([str(PROGRAM)], stdin=subprocess.PIPE, stdout=subprocess.PIPE)
+    at = 0
+    while at < len(data):
+        size = chance.choice([1, 2, 3, 5, 17, 64])
+        process.stdin.write(data[at:at + size])
+        process.stdin.flush()
+        at += size
+    process.stdin.close()
+    out = process.stdout.read()
+    if process.wait(timeout=60) != 0:
+        raise SystemExit("the program fails on input in small writes")
+    return out
+
+
+def check_failed_writes(data):
+    """A device that is full, and an output that is closed: the program ends."""
+    for command in ('exec "$0" > /dev/full', 'exec "$0" >&-'):
+        subprocess.run(["sh", "-c", command, str(PROGRAM)], input=data * 50, capture_output=True, timeout=60)
+
+
+def check_oracle():
+    files = calls = 0
+    for path in recorded_inputs():
+        data = cut(path.read_bytes())
+        compare(f"{path.name}, cut", run(PROGRAM, data), run(ORACLE, data))
+        files += 1
+        calls += len(split_at_line_feeds(data))
+    for seed in range(50001, 50001 + GENERATED):
+        data = cut(generated(seed))
+        compare(f"generate {seed}, cut", run(PROGRAM, data), run(ORACLE, data))
+        files += 1
+        calls += len(split_at_line_feeds(data))
+        if seed % 40 == 0:
+            small = data[:4000]
+            compare(f"generate {seed}, cut, in small writes", in_small_writes(small, seed), run(ORACLE, small))
+    odd = 0
+    for data in odd_inputs():
+        data = cut(data)
+        compare(f"odd input {odd}: {data[:80]!r}", run(PROGRAM, data), run(ORACLE, data))
+        odd += 1
+    check_failed_writes(cut(generated(50001)))
+    print(f"{calls} lines of {files} files, {GENERATED} of them generated, and {odd} odd inputs")
+
+
+if __name__ == "__main__":
+    if not PROGRAM.exists():
+        subprocess.run(["rt", "check", "windowlines"], cwd=ROOT, check=True, stdout=subprocess.DEVNULL)
+    {"recorded": check_recorded, "oracle": check_oracle}[sys.argv[1]]()
