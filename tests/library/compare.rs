@@ -13,6 +13,7 @@ macro_rules! count_work {
 #[allow(dead_code)] // the generator uses the rest
 #[path = "../../oracle/src/calls.rs"]
 mod calls;
+mod declared;
 mod library;
 #[path = "../../oracle/src/line.rs"]
 mod line;

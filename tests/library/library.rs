@@ -1,24 +1,10 @@
-//! The static library as a Rust caller declares it, and a window over it.
+//! A window over the static library.
 
 use crate::calls::Random;
+use crate::declared::*;
 use crate::line::Call;
 use crate::reference::{Answer, Window};
 use crate::window::WindowHeader;
-
-#[repr(C)]
-#[derive(Debug, Clone, Copy, Default, PartialEq, Eq)]
-pub struct Header {
-    window_size: u32,
-    n: u32,
-    demote_at: u32,
-    len: u32,
-    retired_held: u32,
-    release_cursor: u32,
-    nonempty_summary: u64,
-    retired_blocks: u64,
-    promotions: u64,
-    demotions: u64,
-}
 
 impl From<WindowHeader> for Header {
     fn from(header: WindowHeader) -> Self {
@@ -37,25 +23,6 @@ impl From<WindowHeader> for Header {
     }
 }
 
-/// Code, then up to three numbers.
-#[repr(C)]
-#[derive(Debug, Clone, Copy, PartialEq, Eq)]
-pub struct NumberedAnswer {
-    code: u32,
-    first: u32,
-    second: u32,
-    third: u32,
-}
-
-#[repr(C)]
-pub struct NumberedStep {
-    window: Header,
-    answer: NumberedAnswer,
-    count: u32,
-}
-
-const DONE: u32 = 0;
-const PAIR: u32 = 5;
 const REFUSED: u32 = 7;
 const SHORT_MEMORY: u32 = 6;
 
@@ -79,26 +46,6 @@ fn wanted(answer: &Answer) -> NumberedAnswer {
         Answer::Refused(refusal) => numbered(REFUSED, refusal),
         Answer::Released { .. } | Answer::Pairs(_) => unreachable!("no step of the library"),
     }
-}
-
-/// A list is its start and its length, two arguments.
-macro_rules! declared {
-    ($($name:ident($($header:ident,)? [$($start:ident $length:ident: $kind:ty),*] $(, $number:ident)*);)*) => {
-        extern "C" {
-            $(fn $name($($header: Header,)? $($start: *mut $kind, $length: usize,)* $($number: u32),*) -> NumberedStep;)*
-        }
-    };
-}
-
-declared! {
-    packet_window_new([s sl: u32, v vl: u32, p pl: u64, b bl: u64], window_size, n, demote_at);
-    packet_window_get(w, [s sl: u32, v vl: u32, p pl: u64, b bl: u64], sequence);
-    packet_window_successor_after(w, [s sl: u32, v vl: u32, p pl: u64, b bl: u64], sequence);
-    packet_window_first_from(w, [s sl: u32, v vl: u32, p pl: u64, b bl: u64], sequence);
-    packet_window_iter(w, [s sl: u32, v vl: u32, p pl: u64, b bl: u64], cell);
-    packet_window_exchange(w, [s sl: u32, v vl: u32, p pl: u64, b bl: u64], sequence, value);
-    packet_window_remove(w, [s sl: u32, v vl: u32, p pl: u64, b bl: u64], sequence);
-    packet_window_insert(w, [s sl: u32, v vl: u32, p pl: u64, b bl: u64, r rl: u32], sequence, value);
 }
 
 /// The lent memory, with room past the named lengths.

@@ -1,0 +1,227 @@
+//! The static library and the source in one process, on the same calls, timed in turn.
+//!
+//! `bench [WORD]`: the rows whose name has WORD in it, all without one. Each row is made on the library, on the source as
+//! rustc inlines it, and on the source behind a call boundary; the three take turns in each round, and the median of the
+//! rounds is shown, in nanoseconds a call. What the calls answered is summed, and the sums must be equal.
+
+/// The source's work counters stay out.
+macro_rules! count_work {
+    ($($counter:tt)*) => {};
+}
+
+#[allow(dead_code)] // the comparison uses the rest
+#[path = "../library/declared.rs"]
+mod declared;
+mod subjects;
+#[allow(dead_code)] // the oracle uses the rest
+#[path = "../../oracle/target/window.rs"]
+mod window;
+
+use std::process::ExitCode;
+use std::time::Instant;
+use subjects::{Called, Inlined, Library, Window};
+
+const ROUNDS: usize = 9;
+const CALLS: u32 = 100_000;
+const SIZES: [u32; 4] = [64, 512, 4096, 65536];
+
+/// One call of a prepared list.
+#[derive(Clone, Copy)]
+enum Call {
+    Insert(u32),
+    Remove(u32),
+}
+
+/// What a row fills the window with and then does, again and again.
+enum Work {
+    /// Packets inserted in order, each removed when it is this many behind.
+    InOrder { lag: u32 },
+    /// A prepared list of inserts and removes; sequences go on from turn to turn by `span`.
+    Arrivals { calls: Vec<Call>, span: u32 },
+    Get(Vec<u32>),
+    SuccessorAfter(Vec<u32>),
+    /// The window listed so many times.
+    Iter { times: u32 },
+}
+
+struct Row {
+    name: &'static str,
+    size: u32,
+    /// In the window before the first call.
+    held: Vec<u32>,
+    work: Work,
+}
+
+/// A small generator: xorshift.
+struct Random(u64);
+
+impl Random {
+    fn below(&mut self, bound: u32) -> u32 {
+        self.0 ^= self.0 << 13;
+        self.0 ^= self.0 >> 7;
+        self.0 ^= self.0 << 17;
+        ((self.0 >> 33) % u64::from(bound)) as u32
+    }
+}
+
+/// Packets in order, but that each one is lost with this chance and comes again a quarter of the window later; each is read
+/// and removed half a window after its place. The list starts and ends with an empty window.
+fn arrivals(size: u32, percent: u32) -> Work {
+    let mut random = Random(0x9e37_79b9_7f4a_7c15);
+    let span = CALLS / 2 / size * size + size;
+    let mut again = vec![Vec::new(); (span + size) as usize];
+    let mut calls = Vec::new();
+    for at in 0..span + size / 2 {
+        if at < span {
+            if random.below(100) < percent {
+                again[(at + size / 4) as usize].push(at);
+            } else {
+                calls.push(Call::Insert(at));
+            }
+        }
+        calls.extend(again[at as usize].iter().map(|&sequence| Call::Insert(sequence)));
+        if at >= size / 2 {
+            calls.push(Call::Remove(at - size / 2));
+        }
+    }
+    Work::Arrivals { calls, span: span + size }
+}
+
+/// Sequences in a random order: those below the size that are `at` in a group of `each`.
+fn asked(size: u32, each: u32, at: u32) -> Vec<u32> {
+    let mut random = Random(0x2545_f491_4f6c_dd1d);
+    let groups = size / each;
+    (0..CALLS).map(|_| random.below(groups) * each + at).collect()
+}
+
+fn rows() -> Vec<Row> {
+    let mut rows = Vec::new();
+    for size in SIZES {
+        let every = |step: usize| (0..size).step_by(step).collect::<Vec<u32>>();
+        let mut row = |name, held, work| rows.push(Row { name, size, held, work });
+        row("in order, lag 4", vec![], Work::InOrder { lag: 4 });
+        row("in order, lag half", vec![], Work::InOrder { lag: size / 2 });
+        row("1 % lost", vec![], arrivals(size, 1));
+        row("10 % lost", vec![], arrivals(size, 10));
+        row("get, hit, dense", every(2), Work::Get(asked(size, 2, 0)));
+        row("get, miss, dense", every(2), Work::Get(asked(size, 2, 1)));
+        row("get, hit, sparse", every(16), Work::Get(asked(size, 16, 0)));
+        row("get, miss, sparse", every(16), Work::Get(asked(size, 16, 1)));
+        row("successor_after, sparse", every(100), Work::SuccessorAfter(asked(size, 1, 0)));
+        row("iter, full", every(1), Work::Iter { times: (CALLS / size).max(1) });
+        row("iter, nearly empty", vec![0, size / 3, size - 1], Work::Iter { times: CALLS / 64 });
+    }
+    rows
+}
+
+/// The row's calls once: how many there were, and the sum of what they answered. `from` is where sequences start.
+#[inline(always)]
+fn work<W: Window>(w: &mut W, work: &Work, from: &mut u32) -> (u32, u64) {
+    let mut sum = 0u64;
+    let mut add = |answer: u64| sum = sum.wrapping_mul(31).wrapping_add(answer);
+    let calls = match work {
+        Work::InOrder { lag } => {
+            let end = *from + CALLS / 2;
+            for sequence in *from..end {
+                add(w.insert(sequence, !sequence));
+                add(w.remove(sequence.wrapping_sub(*lag)));
+            }
+            *from = end;
+            CALLS
+        }
+        Work::Arrivals { calls, span } => {
+            for call in calls {
+                add(match *call {
+                    Call::Insert(at) => w.insert(*from + at, at),
+                    Call::Remove(at) => w.remove(*from + at),
+                });
+            }
+            *from += span;
+            calls.len() as u32
+        }
+        Work::Get(sequences) => {
+            sequences.iter().for_each(|&sequence| add(w.get(sequence)));
+            sequences.len() as u32
+        }
+        Work::SuccessorAfter(sequences) => {
+            sequences.iter().for_each(|&sequence| add(w.successor_after(sequence)));
+            sequences.len() as u32
+        }
+        Work::Iter { times } => {
+            let mut steps = 0;
+            for _ in 0..*times {
+                w.each(|sequence, value| {
+                    add(u64::from(sequence) << 32 | u64::from(value));
+                    steps += 1;
+                });
+                steps += 1;
+            }
+            steps
+        }
+    };
+    (calls, sum)
+}
+
+/// A window of one kind with its times.
+struct Timed<W> {
+    window: W,
+    from: u32,
+    nanoseconds: Vec<f64>,
+}
+
+impl<W: Window> Timed<W> {
+    /// Filled, and the row's calls made once, so that all memory was touched.
+    fn new(row: &Row) -> Self {
+        let mut window = W::new(row.size);
+        for &sequence in &row.held {
+            window.insert(sequence, !sequence);
+        }
+        let mut from = row.size;
+        work(&mut window, &row.work, &mut from);
+        Self { window, from, nanoseconds: Vec::new() }
+    }
+
+    #[inline(never)]
+    fn round(&mut self, row: &Row) -> u64 {
+        let start = Instant::now();
+        let (calls, sum) = work(&mut self.window, &row.work, &mut self.from);
+        self.nanoseconds.push(start.elapsed().as_nanos() as f64 / f64::from(calls));
+        sum
+    }
+
+    fn median(&mut self) -> f64 {
+        self.nanoseconds.sort_by(f64::total_cmp);
+        self.nanoseconds[ROUNDS / 2]
+    }
+}
+
+/// The row as one line of the table.
+fn measured(row: &Row) -> Result<String, String> {
+    let (mut library, mut inlined, mut called) =
+        (Timed::<Library>::new(row), Timed::<Inlined>::new(row), Timed::<Called>::new(row));
+    for _ in 0..ROUNDS {
+        let sums = [library.round(row), inlined.round(row), called.round(row)];
+        if sums[0] != sums[1] || sums[0] != sums[2] {
+            return Err(format!("{}, window {}: the answers differ, {sums:x?}", row.name, row.size));
+        }
+    }
+    let (ours, theirs, behind) = (library.median(), inlined.median(), called.median());
+    let (name, size) = (row.name, row.size);
+    Ok(format!("| {name} | {size} | {ours:.1} | {theirs:.1} | {:.2} | {behind:.1} | {:.2} |", ours / theirs, ours / behind))
+}
+
+fn main() -> ExitCode {
+    let word = std::env::args().nth(1).unwrap_or_default();
+    println!("| row | window | library | source | ratio | source, called | ratio |");
+    println!("|---|---|---|---|---|---|---|");
+    for row in rows().iter().filter(|row| row.name.contains(&word)) {
+        match measured(row) {
+            Ok(line) => println!("{line}"),
+            Err(why) => {
+                println!("{why}");
+                return ExitCode::FAILURE;
+            }
+        }
+    }
+    ExitCode::SUCCESS
+}

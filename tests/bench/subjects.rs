@@ -1,0 +1,194 @@
+//! The three windows that are timed: the library, the source inlined, and the source behind a call boundary. An answer is a
+//! number, the same for all three.
+
+use crate::declared::*;
+use crate::window::AdaptiveReceiverPacketWindow;
+
+pub const N: usize = 8;
+pub const DEMOTE_AT: u32 = 4;
+
+pub trait Window {
+    fn new(window_size: u32) -> Self;
+    fn insert(&mut self, sequence: u32, value: u32) -> u64;
+    fn remove(&mut self, sequence: u32) -> u64;
+    fn get(&self, sequence: u32) -> u64;
+    fn successor_after(&self, sequence: u32) -> u64;
+    fn each(&self, pair: impl FnMut(u32, u32));
+}
+
+const REFUSED: u64 = 1 << 32;
+const NEW: u64 = 2 << 32;
+const REPLACED: u64 = 3 << 32;
+const ABSENT: u64 = 4 << 32;
+const FOUND: u64 = 5 << 32;
+
+/// Codes of the library that the source can answer, as numbers.
+fn number(answer: NumberedAnswer) -> u64 {
+    let kind = match answer.code {
+        1 => NEW,
+        2 => REPLACED,
+        3 => ABSENT,
+        4 => FOUND,
+        _ => REFUSED,
+    };
+    kind | if kind == REFUSED { 0 } else { u64::from(answer.first) }
+}
+
+fn found(answer: Option<u32>) -> u64 {
+    answer.map_or(ABSENT, |value| FOUND | u64::from(value))
+}
+
+/// A window over the library, in memory that was written before.
+pub struct Library {
+    header: Header,
+    sequences: Vec<u32>,
+    values: Vec<u32>,
+    pages: Vec<u64>,
+    blocks: Vec<u64>,
+    returned: Vec<u32>,
+}
+
+/// The call `name` on the window `w`: the header, the lists (for insert the return list too), the numbers.
+macro_rules! call {
+    ($w:ident, $name:ident, [$($list:ident),*], $($number:expr),*) => {
+        unsafe { $name($w.header, $($w.$list.as_ptr().cast_mut(), $w.$list.len(),)* $($number),*) }
+    };
+}
+
+impl Window for Library {
+    fn new(window_size: u32) -> Self {
+        let capacity = (window_size as usize).max(64).next_power_of_two();
+        let pages = capacity / 64;
+        let mut w = Self {
+            header: Header::default(),
+            sequences: vec![u32::MAX; capacity],
+            values: vec![u32::MAX; capacity],
+            pages: vec![u64::MAX; 3 * pages],
+            blocks: vec![u64::MAX; 3 * pages.div_ceil(64)],
+            returned: vec![u32::MAX; 384],
+        };
+        let step = unsafe {
+            packet_window_new(
+                w.sequences.as_mut_ptr(), capacity, w.values.as_mut_ptr(), capacity, w.pages.as_mut_ptr(), w.pages.len(),
+                w.blocks.as_mut_ptr(), w.blocks.len(), window_size, N as u32, DEMOTE_AT,
+            )
+        };
+        assert_eq!(step.answer.code, DONE);
+        w.header = step.window;
+        w
+    }
+
+    fn insert(&mut self, sequence: u32, value: u32) -> u64 {
+        let w = self;
+        let step = call!(w, packet_window_insert, [sequences, values, pages, blocks, returned], sequence, value);
+        w.header = step.window;
+        number(step.answer)
+    }
+
+    fn remove(&mut self, sequence: u32) -> u64 {
+        let w = self;
+        let step = call!(w, packet_window_remove, [sequences, values, pages, blocks], sequence);
+        w.header = step.window;
+        number(step.answer)
+    }
+
+    fn get(&self, sequence: u32) -> u64 {
+        let w = self;
+        number(call!(w, packet_window_get, [sequences, values, pages, blocks], sequence).answer)
+    }
+
+    fn successor_after(&self, sequence: u32) -> u64 {
+        let w = self;
+        number(call!(w, packet_window_successor_after, [sequences, values, pages, blocks], sequence).answer)
+    }
+
+    fn each(&self, mut pair: impl FnMut(u32, u32)) {
+        let w = self;
+        let mut cell = 0;
+        loop {
+            let NumberedAnswer { code, first, second, third } =
+                call!(w, packet_window_iter, [sequences, values, pages, blocks], cell).answer;
+            if code != PAIR {
+                break;
+            }
+            pair(first, second);
+            cell = third;
+        }
+    }
+}
+
+/// The source, inlined as rustc likes.
+pub struct Inlined(AdaptiveReceiverPacketWindow<u32, N>);
+
+impl Window for Inlined {
+    fn new(window_size: u32) -> Self {
+        Self(AdaptiveReceiverPacketWindow::new(window_size, DEMOTE_AT as usize))
+    }
+
+    fn insert(&mut self, sequence: u32, value: u32) -> u64 {
+        match self.0.insert(sequence, value) {
+            Ok(None) => NEW,
+            Ok(Some(old)) => REPLACED | u64::from(old),
+            Err(_) => REFUSED,
+        }
+    }
+
+    fn remove(&mut self, sequence: u32) -> u64 {
+        found(self.0.remove(sequence))
+    }
+
+    fn get(&self, sequence: u32) -> u64 {
+        found(self.0.get(sequence).copied())
+    }
+
+    fn successor_after(&self, sequence: u32) -> u64 {
+        found(self.0.successor_after(sequence))
+    }
+
+    fn each(&self, mut pair: impl FnMut(u32, u32)) {
+        for (sequence, value) in self.0.iter() {
+            pair(sequence, *value);
+        }
+    }
+}
+
+/// The source with each call, for iter each step, behind a call boundary.
+pub struct Called(Inlined);
+
+#[inline(never)]
+fn stepped<I: Iterator>(iterator: &mut I) -> Option<I::Item> {
+    iterator.next()
+}
+
+impl Window for Called {
+    fn new(window_size: u32) -> Self {
+        Self(Inlined::new(window_size))
+    }
+
+    #[inline(never)]
+    fn insert(&mut self, sequence: u32, value: u32) -> u64 {
+        self.0.insert(sequence, value)
+    }
+
+    #[inline(never)]
+    fn remove(&mut self, sequence: u32) -> u64 {
+        self.0.remove(sequence)
+    }
+
+    #[inline(never)]
+    fn get(&self, sequence: u32) -> u64 {
+        self.0.get(sequence)
+    }
+
+    #[inline(never)]
+    fn successor_after(&self, sequence: u32) -> u64 {
+        self.0.successor_after(sequence)
+    }
+
+    fn each(&self, mut pair: impl FnMut(u32, u32)) {
+        let mut pairs = self.0 .0.iter();
+        while let Some((sequence, value)) = stepped(&mut pairs) {
+            pair(sequence, *value);
+        }
+    }
+}
