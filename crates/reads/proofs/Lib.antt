@@ -2,4 +2,5 @@
 pub mod Reading
 pub mod Rounding
 pub mod CellWalk
+pub mod OwnPage
 pub mod Iterating

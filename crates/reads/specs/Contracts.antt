@@ -2,7 +2,7 @@
 -- Assumes nothing.
 use mathlib.Core.Path.{_≡_}
 use mathlib.Core.List.{List}
-use Prim.Native.Nat.{ℕ, _+_, _-_, _≤_}
+use Prim.Native.Nat.{ℕ, _+_, _-_, _*_, _≤_}
 use Rattle.words.specs.First.{firstFrom}
 use Rattle.window.specs.declared.AdaptiveReceiverPacketWindow.{AdaptiveReceiverPacketWindow}
 use Rattle.window.specs.Memory.{memory, position}
@@ -16,6 +16,11 @@ use Rattle.searches.specs.Contracts.{foundAnswer}
 pub record FindsRound (h : AdaptiveReceiverPacketWindow) (ss pages blocks : List ℕ) (s : ℕ) (r : Found) : Type 0 where
   pub gives : (vs : List ℕ) → Sound (decode h (memory ss vs pages blocks))
       → foundAnswer r ≡ searchFrom (capacityOf (decode h (memory ss vs pages blocks))) (liveAt (decode h (memory ss vs pages blocks))) (position (h .«window_size») (s + 1))
+
+-- the first reachable cell of page g from its cell `from` on; 64 if there is none
+pub record FindsInPage (h : AdaptiveReceiverPacketWindow) (pages blocks : List ℕ) (g from r : ℕ) : Type 0 where
+  pub bounded : r ≤ 64
+  pub gives : (ss vs : List ℕ) → Sound (decode h (memory ss vs pages blocks)) → r ≡ firstFrom (λ (c : ℕ). isReached (decode h (memory ss vs pages blocks)) (64 * g + c)) (64 - from) from
 
 -- the next reachable cell
 pub record FindsCell (h : AdaptiveReceiverPacketWindow) (pages blocks : List ℕ) (start end r : ℕ) : Type 0 where

@@ -1,15 +1,36 @@
 // The next cell in use of a page that is not retired, in page order, then cell order.
+use calls::reachable;
 use pages::page_words;
 use searches::bits_within;
 use searches::next_live_page;
 use window::AdaptiveReceiverPacketWindow;
+ghost use mathlib.Core.Path.{_≡_};
 ghost use Prim.Native.Nat.{_*_, _<_, _≤_};
 ghost use lib.ListN.{length};
 ghost use Rattle.window.specs.Memory.{capacity, pageCount, blockCount};
-ghost use Rattle.reads.specs.Contracts.{FindsCell};
+ghost use Rattle.reads.specs.Contracts.{FindsInPage, FindsCell};
 
-// The first reachable cell from `start` up to `end`, which is the capacity; `end` if there is none.
-pub fn next_cell(
+// The first cell in use of page `page` from its cell `from` on, if the page is reachable; 64 if there is none.
+fn cell_in_page(
+    w: AdaptiveReceiverPacketWindow,
+    pages: &[u64],
+    blocks: &[u64],
+    page: usize,
+    from: usize,
+) -> usize
+    requires { ⌜ (page < pageCount (w .«window_size»)) × (from < 64) ⌝ }
+    requires { ⌜ (3 * pageCount (w .«window_size») ≤ length (now pages)) × (3 * blockCount (w .«window_size») ≤ length (now blocks)) ⌝ }
+    ensures { λ r. ⌜ FindsInPage w (now (pages .entry)) (now (blocks .entry)) page from r ⌝ }
+{
+    if reachable(w, blocks, page) == 0 {
+        return 64;
+    }
+    let words = page_words(pages, page);
+    words::lowest(words.filled, from)
+}
+
+// The first reachable cell from `start` up to `end` by the masks; `end` if there is none.
+fn walk_cells(
     w: AdaptiveReceiverPacketWindow,
     pages: &[u64],
     blocks: &[u64],
@@ -37,4 +58,29 @@ pub fn next_cell(
         from = page + 1;
     };
     cell
+}
+
+// The first reachable cell from `start` up to `end`, which is the capacity; `end` if there is none. Most often it is in the page
+// of `start`, which is looked at first.
+pub fn next_cell(
+    w: AdaptiveReceiverPacketWindow,
+    pages: &[u64],
+    blocks: &[u64],
+    start: usize,
+    end: usize,
+) -> usize
+    requires { ⌜ (w .«window_size» ≤ 65536) × (start < end) × (end ≡ capacity (w .«window_size»)) ⌝ }
+    requires { ⌜ (3 * pageCount (w .«window_size») ≤ length (now pages)) × (3 * blockCount (w .«window_size») ≤ length (now blocks)) ⌝ }
+    ensures { λ r. ⌜ FindsCell w (now (pages .entry)) (now (blocks .entry)) start end r ⌝ }
+{
+    let page = start / 64;
+    let c = cell_in_page(w, pages, blocks, page, start % 64);
+    if c < 64 {
+        return 64 * page + c;
+    }
+    let from = 64 * page + 64;
+    if end <= from {
+        return end;
+    }
+    walk_cells(w, pages, blocks, from, end)
 }

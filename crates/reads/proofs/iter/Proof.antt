@@ -49,7 +49,7 @@ returns-2 c =
 next-cell-requires : tie.Need-next-cell-requires
 next-cell-requires c κs =
     let f = fit (c .before .before) in
-    ((f .within .size-high, omega (arith, c .if2 .left), omega (arith, c .before .capacity .ensures)), (f .long .pages-long, f .long .blocks-long))
+    ((f .within .size-high, omega (arith, c .if2 .left), c .before .capacity .ensures), (f .long .pages-long, f .long .blocks-long))
 
 reply-requires-2 : tie.Need-reply-requires-2
 reply-requires-2 c κs = search needs
