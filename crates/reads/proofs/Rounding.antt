@@ -124,7 +124,7 @@ module _ (h : AdaptiveReceiverPacketWindow) (ss pages blocks : List ℕ) (s p ca
   unfolding decode
   search-is vs q e = λ i. searchFrom (ec i) (liveAt (decode h (memory ss vs pages blocks))) (e i)
 
-  pub finds-all : (r : Found) → cap ≤ p + 1 → FindsLive h ss pages blocks 0 cap r → FindsRound h ss pages blocks s r
+  pub finds-all : (r : Found) → cap ≤ p + 1 → FindsLive h ss pages blocks 0 cap r → FindsRound h ss pages blocks s (foundAnswer r)
   finds-all r l f =
       let z : p + 1 ≡ cap = omega (arith, below) in
       record { gives = λ vs ok. f .gives vs ok ∙ all-round (decode h (memory ss vs pages blocks)) cap ∙ search-is vs 0 (sym (mod-self cap) ∙ ap (λ (x : ℕ). x % cap) (sym z) ∙ next) }
@@ -133,7 +133,7 @@ module _ (h : AdaptiveReceiverPacketWindow) (ss pages blocks : List ℕ) (s p ca
     after : p + 1 ≡ position (h .«window_size») (s + 1)
     after = sym (mod-eq-of-lt l) ∙ next
 
-    pub finds-upper : (r : Found) → FindsLive h ss pages blocks (p + 1) cap r → (foundAnswer r ≡ absent → ⊥) → FindsRound h ss pages blocks s r
+    pub finds-upper : (r : Found) → FindsLive h ss pages blocks (p + 1) cap r → (foundAnswer r ≡ absent → ⊥) → FindsRound h ss pages blocks s (foundAnswer r)
     finds-upper r f n = record {
       gives = λ vs ok.
           let e = f .gives vs ok in
@@ -141,7 +141,7 @@ module _ (h : AdaptiveReceiverPacketWindow) (ss pages blocks : List ℕ) (s p ca
     }
 
     pub finds-lower : (r t : Found) → FindsLive h ss pages blocks (p + 1) cap r → foundAnswer r ≡ absent → FindsLive h ss pages blocks 0 (p + 1) t
-        → FindsRound h ss pages blocks s t
+        → FindsRound h ss pages blocks s (foundAnswer t)
     finds-lower r t f z g = record {
       gives = λ vs ok.
           g .gives vs ok ∙ lower-round (decode h (memory ss vs pages blocks)) cap (p + 1) (omega arith) (sym (f .gives vs ok) ∙ z) ∙ search-is vs (p + 1) after;

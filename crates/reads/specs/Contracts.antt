@@ -6,16 +6,15 @@ use Prim.Native.Nat.{ℕ, _+_, _-_, _*_, _≤_}
 use Rattle.words.specs.First.{firstFrom}
 use Rattle.window.specs.declared.AdaptiveReceiverPacketWindow.{AdaptiveReceiverPacketWindow}
 use Rattle.window.specs.Memory.{memory, position}
+use Rattle.model.specs.Calls.{Answer}
 use Rattle.model.specs.Table.{searchFrom}
 use Rattle.model.specs.Window.{decode, liveAt, isReached, capacityOf}
 use Rattle.model.specs.Sound.{Sound}
-use Rattle.searches.specs.declared.walk.Found.{Found}
-use Rattle.searches.specs.Contracts.{foundAnswer}
 
 -- "successor_after looks from the next position round to its own, last of all"
-pub record FindsRound (h : AdaptiveReceiverPacketWindow) (ss pages blocks : List ℕ) (s : ℕ) (r : Found) : Type 0 where
+pub record FindsRound (h : AdaptiveReceiverPacketWindow) (ss pages blocks : List ℕ) (s : ℕ) (r : Answer) : Type 0 where
   pub gives : (vs : List ℕ) → Sound (decode h (memory ss vs pages blocks))
-      → foundAnswer r ≡ searchFrom (capacityOf (decode h (memory ss vs pages blocks))) (liveAt (decode h (memory ss vs pages blocks))) (position (h .«window_size») (s + 1))
+      → r ≡ searchFrom (capacityOf (decode h (memory ss vs pages blocks))) (liveAt (decode h (memory ss vs pages blocks))) (position (h .«window_size») (s + 1))
 
 -- the first reachable cell of page g from its cell `from` on; 64 if there is none
 pub record FindsInPage (h : AdaptiveReceiverPacketWindow) (pages blocks : List ℕ) (g from r : ℕ) : Type 0 where

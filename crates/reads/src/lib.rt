@@ -11,7 +11,6 @@ use cells::next_cell;
 use pages::page_cells;
 use pages::page_words;
 use round::find_round;
-use searches::walk::Found;
 use window::AdaptiveReceiverPacketWindow;
 use window::answers::Answer;
 use window::answers::Step;
@@ -19,23 +18,10 @@ use window::memory::capacity;
 use window::memory::position;
 use window::refusals::Refusal;
 use window::refusals::fits;
-ghost use mathlib.Core.Path.{_≡_};
 ghost use mathlib.Core.List.{[]};
 ghost use Rattle.model.specs.Calls.{get as getOf, successor-after, first-from, iter as iterOf};
 ghost use Rattle.model.specs.Contract.{Meets};
-ghost use Rattle.searches.specs.Contracts.{foundAnswer};
-ghost use Rattle.calls.specs.Answers.{answerOf, stateOf, leftOf};
-
-// The answer of a call for what a walk found.
-fn found_answer(found: Found) -> Answer
-    ensures { λ r. ⌜ answerOf r ≡ foundAnswer found ⌝ }
-{
-    match found {
-        Found::At(sequence) => Answer::Found(sequence),
-        Found::Nothing => Answer::Absent,
-        Found::Unsound => Answer::Refused(Refusal::Unsound),
-    }
-}
+ghost use Rattle.calls.specs.Answers.{stateOf, leftOf};
 
 // The value of the sequence.
 pub fn get(
@@ -83,8 +69,7 @@ pub fn successor_after(
     if !fits(w, sequences.len(), values.len(), pages.len(), blocks.len()) {
         return refuse(w, Refusal::ShortMemory);
     }
-    let found = find_round(w, sequences, pages, blocks, sequence);
-    reply(w, found_answer(found))
+    reply(w, find_round(w, sequences, pages, blocks, sequence))
 }
 
 // The sequence of the first live value from the sequence's own position on, then round.
@@ -103,8 +88,7 @@ pub fn first_from(
         return refuse(w, Refusal::ShortMemory);
     }
     let before = std::num::wrapping_sub_u32(sequence, 1) % 0x8000_0000;
-    let found = find_round(w, sequences, pages, blocks, before);
-    reply(w, found_answer(found))
+    reply(w, find_round(w, sequences, pages, blocks, before))
 }
 
 // From a cell number, the next reachable pair in page order, then cell order, with the cell after it; done if there is none.

@@ -34,18 +34,15 @@ wrapping-sub-u32-requires c κs = search needs
 find-round-requires : tie.Need-find-round-requires
 find-round-requires c κs = let f = fit (c .before) in ((f .within .size-high, omega (arith, f .within .n-high)), (f .long .sequences-long, f .long .pages-long, f .long .blocks-long))
 
-found-answer-requires : tie.Need-found-answer-requires
-found-answer-requires c κs = search needs
-
 reply-requires : tie.Need-reply-requires
 reply-requires c κs = search needs
 
 returns-2 : tie.Need-returns-2
 returns-2 c =
-    let s = c .before .before .before .before .before .before .before .before .before .before .args in
-    reply-meets (first-from (s .sequence)) (s .w) _ _ _ _ _ (c .before .before .before .before .before .fits2 .ensures) _ _ _ (c .before .before .before .before .if1 .left) refl refl (c .reply .ensures)
-    (from-step (s .w) (memory (now (s .sequences)) (now (s .values)) (now (s .pages)) (now (s .blocks))) (s .sequence) (c .before .before .before .wrapping-sub-u32 .result) (c .before .before .before .wrapping-sub-u32 .ensures))
-    (λ ok. c .before .found-answer .ensures ∙ c .before .before .find-round .ensures .gives (now (s .values)) ok)
+    let s = c .before .before .before .before .before .before .before .before .before .args in
+    reply-meets (first-from (s .sequence)) (s .w) _ _ _ _ _ (c .before .before .before .before .fits2 .ensures) _ _ _ (c .before .before .before .if1 .left) refl refl (c .reply .ensures)
+    (from-step (s .w) (memory (now (s .sequences)) (now (s .values)) (now (s .pages)) (now (s .blocks))) (s .sequence) (c .before .before .wrapping-sub-u32 .result) (c .before .before .wrapping-sub-u32 .ensures))
+    (λ ok. c .before .find-round .ensures .gives (now (s .values)) ok)
 
 pub first-from-spec : {M : Type 1} → statement M
 first-from-spec =
@@ -56,6 +53,5 @@ first-from-spec =
     returns
     wrapping-sub-u32-requires
     find-round-requires
-    found-answer-requires
     reply-requires
     returns-2)

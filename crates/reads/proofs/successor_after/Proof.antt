@@ -31,18 +31,15 @@ fit c = FitLaws.fit _ _ _ _ _ _ (c .before .fits2 .ensures) (c .if1 .left)
 find-round-requires : tie.Need-find-round-requires
 find-round-requires c κs = let f = fit (c) in ((f .within .size-high, omega (arith, f .within .n-high)), (f .long .sequences-long, f .long .pages-long, f .long .blocks-long))
 
-found-answer-requires : tie.Need-found-answer-requires
-found-answer-requires c κs = search needs
-
 reply-requires : tie.Need-reply-requires
 reply-requires c κs = search needs
 
 returns-2 : tie.Need-returns-2
 returns-2 c =
-    let s = c .before .before .before .before .before .before .before .before .before .args in
-    reply-meets (successor-after (s .sequence)) (s .w) _ _ _ _ _ (c .before .before .before .before .fits2 .ensures) _ _ _ (c .before .before .before .if1 .left) refl refl (c .reply .ensures)
+    let s = c .before .before .before .before .before .before .before .before .args in
+    reply-meets (successor-after (s .sequence)) (s .w) _ _ _ _ _ (c .before .before .before .fits2 .ensures) _ _ _ (c .before .before .if1 .left) refl refl (c .reply .ensures)
     (after-step (s .w) (memory (now (s .sequences)) (now (s .values)) (now (s .pages)) (now (s .blocks))) (s .sequence))
-    (λ ok. c .before .found-answer .ensures ∙ c .before .before .find-round .ensures .gives (now (s .values)) ok)
+    (λ ok. c .before .find-round .ensures .gives (now (s .values)) ok)
 
 pub successor-after-spec : {M : Type 1} → statement M
 successor-after-spec =
@@ -52,6 +49,5 @@ successor-after-spec =
     refuse-requires
     returns
     find-round-requires
-    found-answer-requires
     reply-requires
     returns-2)

@@ -1,8 +1,9 @@
 -- The three returns: all positions (finds-all), those after the sequence's (finds-upper), those up to it (finds-lower). Assumes nothing.
-use mathlib.Core.Path.{ap}
+use mathlib.Core.Path.{sym, ap, subst}
 use native.Mathlib.Omega.{arith}
 use Rattle.window.specs.MemoryLaws.{capacity-ge, capacity-le, position-lt}
 use Rattle.searches.specs.Contracts.{foundAnswer}
+use Rattle.reads.specs.Contracts.{FindsRound}
 use Rattle.reads.proofs.Rounding.{something, finds-all, finds-upper, finds-lower}
 use borrow.Author.Needs.{needs}
 use Rattle.reads.proofs.round.find_round.Statement.{statement}
@@ -24,8 +25,14 @@ find-live-requires c κs =
     let e = c .before .before .capacity .ensures in
     ((q .0 .0, q .0 .1, omega (arith, e, capacity-ge (s .w .«window_size»)), omega (arith, e)), q .1)
 
+found-answer-requires : tie.Need-found-answer-requires
+found-answer-requires c κs = search needs
+
 returns : tie.Need-returns
-returns c = let s = c .before .before .before .before .before .before .before .args in finds-all (s .w) _ _ _ (s .sequence) _ _ (c .before .before .position .ensures) (c .before .before .before .capacity .ensures) _ (c .before .if1 .taken) (c .find-live .ensures)
+returns c =
+    let s = c .before .before .before .before .before .before .before .before .args in
+    subst (FindsRound (s .w) _ _ _ (s .sequence)) (sym (c .found-answer .ensures))
+    (finds-all (s .w) _ _ _ (s .sequence) _ _ (c .before .before .before .position .ensures) (c .before .before .before .before .capacity .ensures) _ (c .before .before .if1 .taken) (c .before .find-live .ensures))
 
 find-live-requires-2 : tie.Need-find-live-requires-2
 find-live-requires-2 c κs = search needs
@@ -36,11 +43,23 @@ enum-told c = search needs
 find-live-requires-3 : tie.Need-find-live-requires-3
 find-live-requires-3 c κs = search needs
 
+found-answer-requires-2 : tie.Need-found-answer-requires-2
+found-answer-requires-2 c κs = search needs
+
 returns-2 : tie.Need-returns-2
-returns-2 c = let s = c .before .before .before .before .before .before .before .before .before .before .args in finds-lower (s .w) _ _ _ (s .sequence) _ _ (c .before .before .before .before .before .position .ensures) (c .before .before .before .before .before .before .capacity .ensures) (omega (arith, c .before .before .before .before .if1 .left)) _ _ (c .before .before .before .find-live2 .ensures) (ap foundAnswer (c .before .enum-told .given .1)) (c .find-live3 .ensures)
+returns-2 c =
+    let s = c .before .before .before .before .before .before .before .before .before .before .before .args in
+    subst (FindsRound (s .w) _ _ _ (s .sequence)) (sym (c .found-answer2 .ensures))
+    (finds-lower (s .w) _ _ _ (s .sequence) _ _ (c .before .before .before .before .before .before .position .ensures) (c .before .before .before .before .before .before .before .capacity .ensures) (omega (arith, c .before .before .before .before .before .if1 .left)) _ _ (c .before .before .before .before .find-live2 .ensures) (ap foundAnswer (c .before .before .enum-told .given .1)) (c .before .find-live3 .ensures))
+
+found-answer-requires-3 : tie.Need-found-answer-requires-3
+found-answer-requires-3 c κs = search needs
 
 returns-3 : tie.Need-returns-3
-returns-3 c = let s = c .before .before .before .before .before .before .before .before .args in finds-upper (s .w) _ _ _ (s .sequence) _ _ (c .before .before .before .position .ensures) (c .before .before .before .before .capacity .ensures) (omega (arith, c .before .before .if1 .left)) _ (c .before .find-live2 .ensures) (something (c .before .find-live2 .result) (c .match .keys2))
+returns-3 c =
+    let s = c .before .before .before .before .before .before .before .before .before .args in
+    subst (FindsRound (s .w) _ _ _ (s .sequence)) (sym (c .found-answer3 .ensures))
+    (finds-upper (s .w) _ _ _ (s .sequence) _ _ (c .before .before .before .before .position .ensures) (c .before .before .before .before .before .capacity .ensures) (omega (arith, c .before .before .before .if1 .left)) _ (c .before .before .find-live2 .ensures) (something (c .before .before .find-live2 .result) (c .before .match .keys2)))
 
 pub find-round-spec : {M : Type 1} → statement M
 find-round-spec =
@@ -50,9 +69,12 @@ find-round-spec =
     position-requires
     add-start
     find-live-requires
+    found-answer-requires
     returns
     find-live-requires-2
     enum-told
     find-live-requires-3
+    found-answer-requires-2
     returns-2
+    found-answer-requires-3
     returns-3)

@@ -2,8 +2,8 @@
 use mathlib.Core.Path.{sym, ap}
 use Rattle.searches.specs.Contracts.{foundAnswer}
 use borrow.Author.Needs.{needs}
-use Rattle.reads.proofs.found_answer.Statement.{statement}
-use Rattle.reads.proofs.found_answer.Tie as tie
+use Rattle.reads.proofs.round.found_answer.Statement.{statement}
+use Rattle.reads.proofs.round.found_answer.Tie as tie
 
 enum-known-found : tie.Need-enum-known-found
 enum-known-found c = search needs
