@@ -7,3 +7,4 @@ pub mod Keeping
 pub mod Putting
 pub mod Reviving
 pub mod Inserting
+pub mod Entering

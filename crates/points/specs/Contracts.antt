@@ -20,7 +20,8 @@ use Rattle.page_remove.specs.Contracts.{Wrote, stretch}
 use Rattle.masks.specs.Blocks.{blockWordsAt}
 use Rattle.updates.specs.Contracts as updates
 use Rattle.updates.specs.Contracts.{Stores}
-use Rattle.releases.specs.Contracts.{Within}
+use Rattle.releases.specs.declared.PageReleased.{PageReleased}
+use Rattle.releases.specs.Contracts.{Within, Revives}
 use Rattle.calls.specs.Answers.{answerOf}
 use Rattle.points.specs.declared.insert.Put.{Put}
 
@@ -87,3 +88,13 @@ module _ (h : AdaptiveReceiverPacketWindow) (ss vs pages blocks : List ℕ) (g n
 pub record RevivedAnswer (a r : Answer) : Type 0 where
   pub taken : answerOf r ≡ model.refused 4 → ⊥
   pub same : isNew (answerOf a) ≡ true → answerOf r ≡ answerOf a
+
+-- the same, where k says whether the page was live
+pub record LiveAnswer (k : ℕ) (a r : Answer) : Type 0 where
+  pub revived : k ≡ 0 → RevivedAnswer a r
+  pub live : (k ≡ 0 → ⊥) → r ≡ a
+
+-- page g made live, where k says whether it was: it is revived, or nothing is done
+pub record MakesLive (h : AdaptiveReceiverPacketWindow) (n : ℕ) (ss vs pages blocks l : List ℕ) (g k : ℕ) (r : PageReleased) (pages′ blocks′ l′ : List ℕ) : Type 0 where
+  pub revived : k ≡ 0 → Revives h n ss vs pages blocks l g r pages′ blocks′ l′
+  pub live : (k ≡ 0 → ⊥) → (r ≡ record { window = h; count = 0; sound = true }) × (pages′ ≡ pages) × (blocks′ ≡ blocks) × (l′ ≡ l)

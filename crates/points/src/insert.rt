@@ -1,10 +1,10 @@
 // insert: the sequence and the value into the window. A retired page is first released whole.
 use calls::reachable;
 use calls::refuse;
-use calls::reply;
 use page_insert::InsertAnswer;
 use page_insert::Inserted;
 use pages::page_words;
+use releases::PageReleased;
 use releases::revive;
 use updates::store::store_inserted;
 use window::AdaptiveReceiverPacketWindow;
@@ -20,7 +20,7 @@ ghost use lib.ListN.{length};
 ghost use Rattle.model.specs.Calls.{insert as insertOf};
 ghost use Rattle.model.specs.Contract.{Meets};
 ghost use Rattle.calls.specs.Answers.{stateOf, leftOf};
-ghost use Rattle.points.specs.Contracts.{Keeps, InsertsLive, RevivedAnswer, InsertsRetired};
+ghost use Rattle.points.specs.Contracts.{Keeps, InsertsLive, MakesLive, LiveAnswer};
 
 // The header after an insert into a page, and the answer.
 pub struct Put {
@@ -95,63 +95,44 @@ fn insert_live(
     keep(w, pages, blocks, page, r)
 }
 
-// The answer of an insert into a revived page, which is empty on a sound state: a refusal there means that it was not.
-fn revived_answer(answer: Answer) -> Answer
-    ensures { λ r. ⌜ RevivedAnswer answer r ⌝ }
-{
-    if let Answer::Refused(why) = answer {
-        return Answer::Refused(Refusal::Unsound);
-    }
-    answer
-}
-
-// The same into a page that is retired.
-fn insert_retired(
+// Page `page` made live, `reach` being what `reachable` says of it: if it is retired, it is revived.
+fn made_live(
     w: AdaptiveReceiverPacketWindow,
-    sequences: &mut [u32],
-    values: &mut [u32],
+    sequences: &[u32],
+    values: &[u32],
     pages: &mut [u64],
     blocks: &mut [u64],
     returned: &mut [u32],
     page: usize,
     n: usize,
-    sequence: u32,
-    value: u32,
-) -> Step
+    reach: u64,
+) -> PageReleased
     requires { ⌜ (page < 1024) × (64 * page + 64 ≤ length (now sequences)) × (64 * page + 64 ≤ length (now values)) × (3 * page + 3 ≤ length (now pages)) ⌝ }
-    requires { ⌜ (3 * (page / 64) + 3 ≤ length (now blocks)) × (0 < n) × (n < 64) × (64 ≤ length (now returned)) ⌝ }
-    ensures { λ r. ⌜ InsertsRetired w (now (sequences .entry)) (now (values .entry)) (now (pages .entry)) (now (blocks .entry)) page n sequence value (now (returned .entry)) r (now (sequences .exit)) (now (values .exit)) (now (pages .exit)) (now (blocks .exit)) (now (returned .exit)) ⌝ }
+    requires { ⌜ (3 * (page / 64) + 3 ≤ length (now blocks)) × (n < 64) × (64 ≤ length (now returned)) ⌝ }
+    ensures { λ r. ⌜ MakesLive w n (now (sequences .entry)) (now (values .entry)) (now (pages .entry)) (now (blocks .entry)) (now (returned .entry)) page reach r (now (pages .exit)) (now (blocks .exit)) (now (returned .exit)) ⌝ }
 {
-    let revived = revive(w, sequences, values, pages, blocks, returned, page, n);
-    let window = revived.window;
-    let count = revived.count as u32;
-    if !revived.sound {
-        return Step {
-            window,
-            answer: Outcome {
-                answer: Answer::Refused(Refusal::Unsound),
-                count,
-            },
-        };
+    if reach == 0 {
+        return revive(w, sequences, values, pages, blocks, returned, page, n);
     }
-    let put = insert_live(
-        window,
-        sequences,
-        values,
-        pages,
-        blocks,
-        page,
-        n,
-        sequence,
-        value,
-    );
-    let left = put.window;
-    let given = put.answer;
-    let answer = revived_answer(given);
-    Step {
-        window: left,
-        answer: Outcome { answer, count },
+    PageReleased {
+        window: w,
+        count: 0,
+        sound: true,
     }
+}
+
+// The answer of an insert into a page that was made live. One that was revived is empty on a sound state: a refusal there means
+// that it was not.
+fn live_answer(answer: Answer, reach: u64) -> Answer
+    ensures { λ r. ⌜ LiveAnswer reach answer r ⌝ }
+{
+    if reach != 0 {
+        return answer;
+    }
+    if let Answer::Refused(why) = answer {
+        return Answer::Refused(Refusal::Unsound);
+    }
+    answer
 }
 
 pub fn insert(
@@ -179,22 +160,31 @@ pub fn insert(
     }
     let n = w.n as usize;
     let page = position(w.window_size, sequence) / 64;
-    if reachable(w, blocks, page) == 0 {
-        return insert_retired(
-            w,
-            sequences,
-            values,
-            pages,
-            blocks,
-            returned,
-            page,
-            n,
-            sequence,
-            value,
-        );
+    let reach = reachable(w, blocks, page);
+    let live = made_live(
+        w,
+        sequences,
+        values,
+        pages,
+        blocks,
+        returned,
+        page,
+        n,
+        reach,
+    );
+    let window = live.window;
+    let count = live.count as u32;
+    if !live.sound {
+        return Step {
+            window,
+            answer: Outcome {
+                answer: Answer::Refused(Refusal::Unsound),
+                count,
+            },
+        };
     }
     let put = insert_live(
-        w,
+        window,
         sequences,
         values,
         pages,
@@ -204,7 +194,11 @@ pub fn insert(
         sequence,
         value,
     );
-    let window = put.window;
-    let answer = put.answer;
-    reply(window, answer)
+    let left = put.window;
+    let given = put.answer;
+    let answer = live_answer(given, reach);
+    Step {
+        window: left,
+        answer: Outcome { answer, count },
+    }
 }

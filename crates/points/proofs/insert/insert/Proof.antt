@@ -1,16 +1,15 @@
-use mathlib.Core.Path.{sym, subst}
+use mathlib.Core.Path.{_∙_}
 use Prim.Native.Nat.{_/_, _≤_}
 use native.Mathlib.Omega.{arith}
 use denote.Ref.{now}
-use lib.Dec.{leb}
 use lib.ListN.{length}
-use Rattle.window.specs.declared.answers.Step.{Step}
+use borrow.Author.Tests.{not-true}
+use Rattle.window.specs.declared.answers.Answer.the-variants.{Refused}
+use Rattle.window.specs.declared.refusals.Refusal.the-variants.{Unsound}
 use Rattle.window.specs.RefusalLaws.{Fits}
-use Rattle.model.specs.Calls.{insert}
-use Rattle.model.specs.Contract.{Meets}
-use Rattle.calls.specs.Answers.{replied, stateOf, leftOf}
 use Rattle.calls.specs.FitLaws.{PageBounds, sequence-bounds}
-use Rattle.points.proofs.Inserting.{short-list, long-list, writes-meet, retired-writes, live-writes}
+use Rattle.points.proofs.Inserting.{short-list, long-list, writes-meet}
+use Rattle.points.proofs.Entering.{few-made, stepOf, unsound-writes, entered-writes}
 use borrow.Author.Needs.{needs}
 use Rattle.points.proofs.insert.insert.Statement.{statement}
 use Rattle.points.proofs.insert.insert.Tie as tie
@@ -18,21 +17,21 @@ use Rattle.points.proofs.insert.insert.Reads as reads
 use Rattle.points.proofs.insert.insert.Lts as lts
 use Rattle.calls.proofs.reachable.Reads as reachable-reads
 use Rattle.calls.proofs.refuse.Reads as refuse-reads
-use Rattle.calls.proofs.reply.Reads as reply-reads
 use Rattle.points.proofs.insert.insert_live.Reads as insert-live-reads
-use Rattle.points.proofs.insert.insert_retired.Reads as insert-retired-reads
+use Rattle.points.proofs.insert.live_answer.Reads as live-answer-reads
+use Rattle.points.proofs.insert.made_live.Reads as made-live-reads
 use Rattle.window.proofs.memory.position.Reads as position-reads
 use Rattle.window.proofs.refusals.fits_with_list.Reads as fits-with-list-reads
 
--- src/insert.rt:171:9
+-- src/insert.rt:151:9
 fits-with-list-requires : tie.Need-fits-with-list-requires
 fits-with-list-requires c κs = search needs
 
--- src/insert.rt:179:9
+-- src/insert.rt:159:9
 refuse-requires : tie.Need-refuse-requires
 refuse-requires c κs = search needs
 
--- src/insert.rt:179:9
+-- src/insert.rt:159:9
 returns : tie.Need-returns
 returns c =
     let s = c .before .before .before .before .before .before .before .before .args in
@@ -48,101 +47,107 @@ fit c =
 page : (c : tie.After-position) → PageBounds (c .before .before .before .before .before .before .before .before .before .args .w .«window_size») (c .position .result / 64)
 page c = rw (c .position .ensures) (sequence-bounds (c .before .before .before .before .before .before .before .before .before .args .w .«window_size») (c .before .before .before .before .before .before .before .before .before .args .sequence))
 
--- src/insert.rt:181:13
+-- src/insert.rt:161:13
 cast-n : tie.Need-cast-n
 cast-n c = search needs
 
--- src/insert.rt:182:16
+-- src/insert.rt:162:16
 position-requires : tie.Need-position-requires
 position-requires c κs = fit (c .before) .1 .within .size-high
 
--- src/insert.rt:183:8
+-- src/insert.rt:163:9
 reachable-requires : tie.Need-reachable-requires
 reachable-requires c κs = let p = page (c .before) in (p .page-fits, omega (arith, p .block-words, fit (c .before .before .before) .1 .long .blocks-long))
 
--- src/insert.rt:184:9
-insert-retired-requires : tie.Need-insert-retired-requires
-insert-retired-requires c κs =
-    let p = page (c .before .before .before .before .before .before .before .before) in
-    let f = fit (c .before .before .before .before .before .before .before .before .before .before) in (
-      (p .page-fits, omega (arith, p .cells, f .1 .long .sequences-long), omega (arith, p .cells, f .1 .long .values-long), omega (arith, p .words, f .1 .long .pages-long)),
-      (omega (arith, p .block-words, f .1 .long .blocks-long), omega (arith, f .1 .within .n-low), omega (arith, f .1 .within .n-high), omega (arith, f .0)),
-    )
-
--- src/insert.rt:184:9
-same-length : tie.Need-same-length
-same-length c = search needs
-
--- src/insert.rt:184:9
-same-length-2 : tie.Need-same-length-2
-same-length-2 c = search needs
-
--- src/insert.rt:184:9
-same-length-3 : tie.Need-same-length-3
-same-length-3 c = search needs
-
--- src/insert.rt:184:9
-same-length-4 : tie.Need-same-length-4
-same-length-4 c = search needs
-
--- src/insert.rt:184:9
-same-length-5 : tie.Need-same-length-5
-same-length-5 c = search needs
-
--- src/insert.rt:184:9
-returns-2 : tie.Need-returns-2
-returns-2 c =
-    let s = c .before .before .before .before .before .before .before .before .before .before .before .before .before .before .before .before .before .before .before .before .before .before .before .before .before .before .before .before .args in
-    let p = c .before .before .before .before .before .before .before .before .before .before .before .before .before .before .before .before .before .before .before .position in
-    let k = c .before .before .before .before .before .before .before .before .before .before .before .before .before .before .before .before .before .reachable in
-    let t = c .before .before .before .before .before .before .before .before .before .before .insert-retired in
-    let f = fit (c .before .before .before .before .before .before .before .before .before .before .before .before .before .before .before .before .before .before .before .before .before) in
-    writes-meet (s .w) (now (s .sequences)) (now (s .values)) (now (s .pages)) (now (s .blocks)) (now (s .returned)) (s .sequence) (s .value) _ (c .before .before .before .before .before .before .before .before .before .before .before .before .before .before .before .before .before .before .before .before .before .before .fits-with-list .ensures) (t .result) _ _ _ _ _ (c .before .before .before .before .before .before .before .before .before .before .before .before .before .before .before .before .before .before .before .before .before .if1 .left)
-    (retired-writes (s .w) (now (s .sequences)) (now (s .values)) (now (s .pages)) (now (s .blocks)) (now (s .returned)) (s .sequence) (s .value) (p .result) (k .result) (p .ensures) (k .ensures) (f .1) (f .0) _ _ _ _
-    (t .ensures .within) (t .ensures .sequences) (t .ensures .values) (t .result) _ (c .before .before .before .before .before .before .before .before .before .before .before .before .before .before .before .before .if2 .taken) (t .ensures))
-
--- src/insert.rt:197:9
-insert-live-requires : tie.Need-insert-live-requires
-insert-live-requires c κs =
+-- src/insert.rt:164:9
+made-live-requires : tie.Need-made-live-requires
+made-live-requires c κs =
     let p = page (c .before .before .before .before .before .before .before) in
     let f = fit (c .before .before .before .before .before .before .before .before .before) in (
       (p .page-fits, omega (arith, p .cells, f .1 .long .sequences-long), omega (arith, p .cells, f .1 .long .values-long), omega (arith, p .words, f .1 .long .pages-long)),
-      (omega (arith, p .block-words, f .1 .long .blocks-long), omega (arith, f .1 .within .n-low), omega (arith, f .1 .within .n-high)),
+      (omega (arith, p .block-words, f .1 .long .blocks-long), omega (arith, f .1 .within .n-high), omega (arith, f .0)),
     )
 
--- src/insert.rt:210:5
-reply-requires : tie.Need-reply-requires
-reply-requires c κs = search needs
+-- src/insert.rt:176:17
+cast-count : tie.Need-cast-count
+cast-count c = omega (arith, few-made _ _ _ _ _ _ _ _ _ _ _ _ _ (c .before .before .before .before .before .before .before .before .made-live .ensures))
 
--- src/insert.rt:158:1
+-- src/insert.rt:178:9
+same-length : tie.Need-same-length
+same-length c = search needs
+
+-- src/insert.rt:178:9
+same-length-2 : tie.Need-same-length-2
+same-length-2 c = search needs
+
+-- src/insert.rt:178:9
+same-length-3 : tie.Need-same-length-3
+same-length-3 c = search needs
+
+-- src/insert.rt:178:9
+same-length-4 : tie.Need-same-length-4
+same-length-4 c = search needs
+
+-- src/insert.rt:178:9
+same-length-5 : tie.Need-same-length-5
+same-length-5 c = search needs
+
+-- src/insert.rt:178:9
+returns-2 : tie.Need-returns-2
+returns-2 c =
+    let s = c .before .before .before .before .before .before .before .before .before .before .before .before .before .before .before .before .before .before .before .before .before .before .before .before .before .before .before .args in
+    let f = fit (c .before .before .before .before .before .before .before .before .before .before .before .before .before .before .before .before .before .before .before .before) in
+    let p = c .before .before .before .before .before .before .before .before .before .before .before .before .before .before .before .before .before .before .position in
+    let k = c .before .before .before .before .before .before .before .before .before .before .before .before .before .before .before .before .reachable in
+    let t = c .before .before .before .before .before .before .before .before .before .before .made-live in
+    writes-meet (s .w) (now (s .sequences)) (now (s .values)) (now (s .pages)) (now (s .blocks)) (now (s .returned)) (s .sequence) (s .value) _ (c .before .before .before .before .before .before .before .before .before .before .before .before .before .before .before .before .before .before .before .before .before .fits-with-list .ensures) (stepOf (t .result .window) (Refused Unsound) (t .result .count)) _ _ _ _ _ (c .before .before .before .before .before .before .before .before .before .before .before .before .before .before .before .before .before .before .before .before .if1 .left)
+    (unsound-writes (s .w) (now (s .sequences)) (now (s .values)) (now (s .pages)) (now (s .blocks)) (now (s .returned)) (s .sequence) (s .value) (p .result) (k .result) (p .ensures) (k .ensures) (f .1) (f .0) (t .result) _ _ _ (t .ensures) (not-true _ (c .if2 .taken)))
+
+-- src/insert.rt:186:9
+insert-live-requires : tie.Need-insert-live-requires
+insert-live-requires c κs =
+    let p = page (c .before .before .before .before .before .before .before .before .before .before .before .before .before .before .before .before .before .before .before .before .before .before) in
+    let f = fit (c .before .before .before .before .before .before .before .before .before .before .before .before .before .before .before .before .before .before .before .before .before .before .before .before) in
+    let k = c .before .before .before .before .before .before .before .before .before .before .before .before .before .before .made-live .kept in (
+      (p .page-fits, omega (arith, p .cells, f .1 .long .sequences-long), omega (arith, p .cells, f .1 .long .values-long), omega (arith, p .words, f .1 .long .pages-long, k .1 .1 .1 .0)),
+      (omega (arith, p .block-words, f .1 .long .blocks-long, k .1 .1 .1 .1 .0), omega (arith, f .1 .within .n-low), omega (arith, f .1 .within .n-high)),
+    )
+
+-- src/insert.rt:199:9
+live-answer-requires : tie.Need-live-answer-requires
+live-answer-requires c κs = search needs
+
+-- src/insert.rt:138:1
 same-length-6 : tie.Need-same-length-6
 same-length-6 c = search needs
 
--- src/insert.rt:158:1
+-- src/insert.rt:138:1
 same-length-7 : tie.Need-same-length-7
 same-length-7 c = search needs
 
--- src/insert.rt:158:1
+-- src/insert.rt:138:1
 same-length-8 : tie.Need-same-length-8
-same-length-8 c = search needs
+same-length-8 c = c .before .before .before .before .before .before .before .before .before .before .insert-live .kept .1 .1 .1 .0 ∙ c .before .before .before .before .before .before .before .before .before .before .before .before .before .before .before .before .before .before .before .before .before .before .before .before .before .made-live .kept .1 .1 .1 .0
 
--- src/insert.rt:158:1
+-- src/insert.rt:138:1
 same-length-9 : tie.Need-same-length-9
-same-length-9 c = search needs
+same-length-9 c = c .before .before .before .before .before .before .before .before .before .before .insert-live .kept .1 .1 .1 .1 .0 ∙ c .before .before .before .before .before .before .before .before .before .before .before .before .before .before .before .before .before .before .before .before .before .before .before .before .before .made-live .kept .1 .1 .1 .1 .0
 
--- src/insert.rt:158:1
+-- src/insert.rt:138:1
+same-length-10 : tie.Need-same-length-10
+same-length-10 c = search needs
+
+-- src/insert.rt:138:1
 returns-3 : tie.Need-returns-3
 returns-3 c =
-    let s = c .before .before .before .before .before .before .before .before .before .before .before .before .before .before .before .before .before .before .before .before .before .before .before .before .before .before .before .args in
-    let p = c .before .before .before .before .before .before .before .before .before .before .before .before .before .before .before .before .before .before .position in
-    let k = c .before .before .before .before .before .before .before .before .before .before .before .before .before .before .before .before .reachable in
-    let t = c .before .before .before .before .before .before .before .before .before .before .insert-live in
-    let f = fit (c .before .before .before .before .before .before .before .before .before .before .before .before .before .before .before .before .before .before .before .before) in
-    subst (λ (y : Step). Meets (insert (s .sequence) (s .value) (leb 384 (length (now (s .returned))))) (stateOf (s .w) (now (s .sequences)) (now (s .values)) (now (s .pages)) (now (s .blocks))) (now (s .returned))
-    (leftOf y (t .last .1 .0) (t .last .1 .1 .0) (t .last .1 .1 .1 .0) (t .last .1 .1 .1 .1 .0) (now (s .returned)))) (sym (c .reply .ensures))
-    (writes-meet (s .w) (now (s .sequences)) (now (s .values)) (now (s .pages)) (now (s .blocks)) (now (s .returned)) (s .sequence) (s .value) _ (c .before .before .before .before .before .before .before .before .before .before .before .before .before .before .before .before .before .before .before .before .before .fits-with-list .ensures) (replied (t .result .window) (t .result .answer)) _ _ _ _ _ (c .before .before .before .before .before .before .before .before .before .before .before .before .before .before .before .before .before .before .before .before .if1 .left)
-    (live-writes (s .w) (now (s .sequences)) (now (s .values)) (now (s .pages)) (now (s .blocks)) (now (s .returned)) (s .sequence) (s .value) (p .result) (k .result) (p .ensures) (k .ensures) (f .1) (f .0) _ _ _ _
-    (t .ensures .within) (t .ensures .sequences) (t .ensures .values) (t .result) (c .before .before .before .before .before .before .before .before .before .before .before .before .before .before .before .if2 .left) (t .ensures)))
+    let i = c .before .before .before .before .before .before .before .before .before .before .insert-live in
+    let s = c .before .before .before .before .before .before .before .before .before .before .before .before .before .before .before .before .before .before .before .before .before .before .before .before .before .before .before .before .before .before .before .before .before .before .before .before .before .before .before .before .before .before .args in
+    let f = fit (c .before .before .before .before .before .before .before .before .before .before .before .before .before .before .before .before .before .before .before .before .before .before .before .before .before .before .before .before .before .before .before .before .before .before .before) in
+    let p = c .before .before .before .before .before .before .before .before .before .before .before .before .before .before .before .before .before .before .before .before .before .before .before .before .before .before .before .before .before .before .before .before .before .position in
+    let k = c .before .before .before .before .before .before .before .before .before .before .before .before .before .before .before .before .before .before .before .before .before .before .before .before .before .before .before .before .before .before .before .reachable in
+    let t = c .before .before .before .before .before .before .before .before .before .before .before .before .before .before .before .before .before .before .before .before .before .before .before .before .before .made-live in
+    writes-meet (s .w) (now (s .sequences)) (now (s .values)) (now (s .pages)) (now (s .blocks)) (now (s .returned)) (s .sequence) (s .value) _ (c .before .before .before .before .before .before .before .before .before .before .before .before .before .before .before .before .before .before .before .before .before .before .before .before .before .before .before .before .before .before .before .before .before .before .before .before .fits-with-list .ensures) (stepOf (i .result .window) (c .live-answer .result) (t .result .count)) _ _ _ _ _ (c .before .before .before .before .before .before .before .before .before .before .before .before .before .before .before .before .before .before .before .before .before .before .before .before .before .before .before .before .before .before .before .before .before .before .before .if1 .left)
+    (entered-writes (s .w) (now (s .sequences)) (now (s .values)) (now (s .pages)) (now (s .blocks)) (now (s .returned)) (s .sequence) (s .value) (p .result) (k .result) (p .ensures) (k .ensures) (f .1) (f .0) (t .result) _ _ _ (t .ensures) (i .result) _ _ _ _ _ (i .ensures) (c .live-answer .ensures))
 
 pub insert-spec : {M : Type 1} → statement M
 insert-spec =
@@ -154,7 +159,8 @@ insert-spec =
     cast-n
     position-requires
     reachable-requires
-    insert-retired-requires
+    made-live-requires
+    cast-count
     same-length
     same-length-2
     same-length-3
@@ -162,9 +168,10 @@ insert-spec =
     same-length-5
     returns-2
     insert-live-requires
-    reply-requires
+    live-answer-requires
     same-length-6
     same-length-7
     same-length-8
     same-length-9
+    same-length-10
     returns-3)
