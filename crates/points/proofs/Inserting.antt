@@ -29,9 +29,10 @@ use Rattle.calls.specs.FitLaws.{page-bounds}
 use Rattle.calls.specs.ReplyLaws.{not-check}
 use Rattle.calls.specs.ReachLaws.{unreachable, is-reachable}
 use Rattle.points.specs.declared.insert.Put.{Put}
-use Rattle.points.specs.Contracts.{afterPut, Cells, Placing, InsertsLive, InsertsRetired}
+use Rattle.points.specs.Contracts.{afterPut, Cells, Placing, InsertsLive}
 use Rattle.points.proofs.Placing.{part-past}
 use Rattle.points.proofs.Exchanging.{below, cells-in}
+use Rattle.points.proofs.Reviving.{InsertsRetired}
 
 -- ---- the refusal for short lists
 

@@ -13,6 +13,7 @@ use Rattle.words.specs.BitLaws.{bit-none}
 use Rattle.window.specs.declared.AdaptiveReceiverPacketWindow.{AdaptiveReceiverPacketWindow}
 use Rattle.window.specs.declared.answers.Answer.{Answer}
 use Rattle.window.specs.declared.answers.Answer.the-variants.{Done, New, Replaced, Absent, Found, Pair, Released, Refused}
+use Rattle.window.specs.declared.answers.Step.{Step}
 use Rattle.window.specs.declared.refusals.Refusal.{Refusal}
 use Rattle.window.specs.declared.refusals.Refusal.the-variants.{Unsound}
 use Rattle.window.specs.Memory.{memory, pageCount, blockCount}
@@ -30,6 +31,7 @@ use Rattle.pages.specs.StandLaws.{stands-none}
 use Rattle.pages.specs.LiveLaws.{page-placed}
 use Rattle.pages.specs.DecodeLaws.{header-at}
 use Rattle.page_insert.specs.InsertLaws.{insert-leaves}
+use Rattle.page_remove.specs.Contracts.{Wrote, stretch}
 use Rattle.releases.specs.declared.PageReleased.{PageReleased}
 use Rattle.releases.specs.Contracts.{Within, Inside, Revives}
 use Rattle.soundness.specs.PointLaws.{proper-decode}
@@ -37,7 +39,7 @@ use Rattle.soundness.specs.ReviveLaws.{Revived, revive-revives}
 use Rattle.calls.specs.Answers.{answerOf}
 use Rattle.points.proofs.Exchanging.{isRefusal}
 use Rattle.points.specs.declared.insert.Put.{Put}
-use Rattle.points.specs.Contracts.{afterPut, Cells, Placing, InsertsLive, InsertsRetired, RevivedAnswer}
+use Rattle.points.specs.Contracts.{afterPut, Cells, Placing, InsertsLive, RevivedAnswer}
 
 -- the number of a refusal
 abbrev number : model.Answer → ℕ
@@ -92,6 +94,24 @@ refuses (Found n) k e = absurd (true≢false (sym (ap isRefusal e)))
 refuses (Pair s v next) k e = absurd (true≢false (sym (ap isRefusal e)))
 refuses (Released values units) k e = absurd (true≢false (sym (ap isRefusal e)))
 refuses (Refused why) k e = refl
+
+-- ---- what an insert into a retired page comes to
+
+module _ (h : AdaptiveReceiverPacketWindow) (ss vs pages blocks : List ℕ) (g n s v : ℕ) where
+  pub record InsertsRetired (l : List ℕ) (r : Step) (ss′ vs′ pages′ blocks′ l′ : List ℕ) : Type 0 where
+    pub within : Within pages blocks g pages′ blocks′
+    pub sequences : Cells g ss ss′
+    pub values : Cells g vs vs′
+    pub wrote : Wrote 0 (r .answer .count) l l′
+    pub few : r .answer .count ≤ 64
+    -- a revived page holds nothing: nothing is refused 4
+    pub taken : answerOf (r .answer .answer) ≡ model.refused 4 → ⊥
+    pub answer : Placing h ss vs pages blocks g n s v → isRetired (decode h (memory ss vs pages blocks)) g ≡ true
+        → answerOf (r .answer .answer) ≡ insertPage n (revive (decode h (memory ss vs pages blocks)) g .after .pages g) s v .answer
+    pub gives : Placing h ss vs pages blocks g n s v → isRetired (decode h (memory ss vs pages blocks)) g ≡ true
+        → decode (r .window) (memory ss′ vs′ pages′ blocks′)
+        ≡ afterPut (revive (decode h (memory ss vs pages blocks)) g .after) g (insertPage n (revive (decode h (memory ss vs pages blocks)) g .after .pages g) s v)
+    pub out : Placing h ss vs pages blocks g n s v → isRetired (decode h (memory ss vs pages blocks)) g ≡ true → stretch 0 (r .answer .count) l′ ≡ revive (decode h (memory ss vs pages blocks)) g .out
 
 module _ (h : AdaptiveReceiverPacketWindow) (ss vs pages blocks : List ℕ) (g n s v : ℕ) (l : List ℕ) where
   abbrev before : Window

@@ -6,17 +6,15 @@ use Prim.Native.Nat.{ℕ, _*_, _/_, _≤_, _<_}
 use lib.ListN.{length}
 use Rattle.window.specs.declared.AdaptiveReceiverPacketWindow.{AdaptiveReceiverPacketWindow}
 use Rattle.window.specs.declared.answers.Answer.{Answer}
-use Rattle.window.specs.declared.answers.Step.{Step}
 use Rattle.window.specs.Memory.{memory, pageCount, blockCount}
 use Rattle.model.specs.Calls as model
-use Rattle.model.specs.Window.{Window, decode, isRetired}
+use Rattle.model.specs.Window.{Window, decode}
 use Rattle.model.specs.Pages as one
-use Rattle.model.specs.Steps.{withPage, putPage, addLive, countPromotion, isNew, revive}
+use Rattle.model.specs.Steps.{withPage, putPage, addLive, countPromotion, isNew}
 use Rattle.model.specs.Sound.{Sound}
 use Rattle.pages.specs.Page.{withPart}
 use Rattle.page_insert.specs.declared.Inserted.{Inserted}
 use Rattle.page_insert.specs.Insert as page
-use Rattle.page_remove.specs.Contracts.{Wrote, stretch}
 use Rattle.masks.specs.Blocks.{blockWordsAt}
 use Rattle.updates.specs.Contracts as updates
 use Rattle.updates.specs.Contracts.{Stores}
@@ -68,21 +66,6 @@ module _ (h : AdaptiveReceiverPacketWindow) (ss vs pages blocks : List ℕ) (g n
         → decode (p .window) (memory ss′ vs′ pages′ blocks′) ≡ afterPut (decode h (memory ss vs pages blocks)) g (one.insertPage n (decode h (memory ss vs pages blocks) .pages g) s v)
     -- a refusal 4 leaves all as it came
     pub refused : Placing → answerOf (p .answer) ≡ model.refused 4 → Untouched h pages blocks (p .window) pages′ blocks′ × (ss′ ≡ ss) × (vs′ ≡ vs)
-
-  pub record InsertsRetired (l : List ℕ) (r : Step) (ss′ vs′ pages′ blocks′ l′ : List ℕ) : Type 0 where
-    pub within : Within pages blocks g pages′ blocks′
-    pub sequences : Cells g ss ss′
-    pub values : Cells g vs vs′
-    pub wrote : Wrote 0 (r .answer .count) l l′
-    pub few : r .answer .count ≤ 64
-    -- a revived page holds nothing: nothing is refused 4
-    pub taken : answerOf (r .answer .answer) ≡ model.refused 4 → ⊥
-    pub answer : Placing → isRetired (decode h (memory ss vs pages blocks)) g ≡ true
-        → answerOf (r .answer .answer) ≡ one.insertPage n (revive (decode h (memory ss vs pages blocks)) g .after .pages g) s v .answer
-    pub gives : Placing → isRetired (decode h (memory ss vs pages blocks)) g ≡ true
-        → decode (r .window) (memory ss′ vs′ pages′ blocks′)
-        ≡ afterPut (revive (decode h (memory ss vs pages blocks)) g .after) g (one.insertPage n (revive (decode h (memory ss vs pages blocks)) g .after .pages g) s v)
-    pub out : Placing → isRetired (decode h (memory ss vs pages blocks)) g ≡ true → stretch 0 (r .answer .count) l′ ≡ revive (decode h (memory ss vs pages blocks)) g .out
 
 -- an answer on a revived page: no refusal but 7
 pub record RevivedAnswer (a r : Answer) : Type 0 where
