@@ -18,10 +18,9 @@ mod subjects;
 mod window;
 
 use std::process::ExitCode;
-use std::time::Instant;
 use subjects::{Called, Inlined, Library, Window};
 
-const ROUNDS: usize = 9;
+const ROUNDS: usize = 25;
 const CALLS: u32 = 100_000;
 const SIZES: [u32; 4] = [64, 512, 4096, 65536];
 
@@ -162,6 +161,26 @@ fn work<W: Window>(w: &mut W, work: &Work, from: &mut u32) -> (u32, u64) {
     (calls, sum)
 }
 
+#[repr(C)]
+struct Timespec {
+    seconds: i64,
+    nanoseconds: i64,
+}
+
+extern "C" {
+    fn clock_gettime(clock: i32, time: *mut Timespec) -> i32;
+}
+
+/// Linux's clock of the processor time that this thread has used.
+const CLOCK_THREAD_CPUTIME_ID: i32 = 3;
+
+/// That time in nanoseconds: other work on the machine that takes the processor away does not count.
+fn processor_time() -> i64 {
+    let mut time = Timespec { seconds: 0, nanoseconds: 0 };
+    assert_eq!(unsafe { clock_gettime(CLOCK_THREAD_CPUTIME_ID, &mut time) }, 0);
+    time.seconds * 1_000_000_000 + time.nanoseconds
+}
+
 /// A window of one kind with its times.
 struct Timed<W> {
     window: W,
@@ -183,9 +202,9 @@ impl<W: Window> Timed<W> {
 
     #[inline(never)]
     fn round(&mut self, row: &Row) -> u64 {
-        let start = Instant::now();
+        let start = processor_time();
         let (calls, sum) = work(&mut self.window, &row.work, &mut self.from);
-        self.nanoseconds.push(start.elapsed().as_nanos() as f64 / f64::from(calls));
+        self.nanoseconds.push((processor_time() - start) as f64 / f64::from(calls));
         sum
     }
 
