@@ -23,6 +23,17 @@ answerOf (Pair s v next) = model.pair s v next
 answerOf (Released values units) = model.released values units
 answerOf (Refused why) = model.refused (refusalNumber why)
 
+-- the number of a refusal, 0 for any other answer
+abbrev pub numberOf : model.Answer → ℕ
+numberOf model.done = 0
+numberOf model.new = 0
+numberOf (model.replaced v) = 0
+numberOf model.absent = 0
+numberOf (model.found n) = 0
+numberOf (model.pair s v next) = 0
+numberOf (model.released values units) = 0
+numberOf (model.refused k) = k
+
 -- an answer with the header as it is and nothing returned
 abbrev pub replied : AdaptiveReceiverPacketWindow → Answer → Step
 replied w a = record { window = w; answer = record { answer = a; count = 0 } }

@@ -1,8 +1,9 @@
 -- What the calls share: answers (Answers), reachable pages (Contracts, ReachLaws), how a call is shown to meet the contract of every
--- call (MeetsLaws, ReplyLaws), and what it knows once refusal 6 does not apply (FitLaws).
+-- call (MeetsLaws, ReplyLaws; ListLaws with a return list), and what it knows once refusal 6 does not apply (FitLaws).
 pub mod Answers
 pub mod Contracts
 pub mod MeetsLaws
 pub mod FitLaws
 pub mod ReplyLaws
 pub mod ReachLaws
+pub mod ListLaws

@@ -1,14 +1,14 @@
--- Laws of `drain`: nothing is lost, nothing outside its positions changes, with enough it empties them, and how many it takes out.
--- Assumes nothing.
-use mathlib.Core.Path.{_≡_, refl, ap, _∙_}
+-- Laws of `drain`: positions in two parts, nothing is lost, nothing outside its positions changes, with enough it empties them, and how
+-- many it takes out. Assumes nothing.
+use mathlib.Core.Path.{_≡_, refl, sym, ap, _∙_}
 use mathlib.Core.Option.{none, some}
-use mathlib.Core.List.{_∷_}
-use Prim.Native.Nat.{ℕ, zero, suc, _+_, _≤_, _<_}
+use mathlib.Core.List.{[], _∷_, _++_}
+use Prim.Native.Nat.{ℕ, zero, suc, _+_, _-_, _≤_, _<_}
 use native.Mathlib.Omega.{arith}
 use native.Mathlib.Decide.{ℕ-discrete}
 use lib.ListN.{length}
 use Rattle.model.specs.Table.{Pair, Table, sum, held, at}
-use Rattle.model.specs.Positions.{drained, drain}
+use Rattle.model.specs.Positions.{Drained, drained, drain}
 use Rattle.model.proofs.Sums.{case, at-same, at-other, sum-at, weigh, weight, total, each, held-le, weight-held, total-length}
 
 -- ---- one step, by what stands at p
@@ -21,6 +21,44 @@ pub drain-held : (n p k : ℕ) (t : Table) (x : Pair) → t p ≡ some x
     → drain (suc n) p (suc k) t ≡ drained (drain n (suc p) k (at t p none) .left) (x .value ∷ drain n (suc p) k (at t p none) .out)
 unfolding drain
 drain-held n p k t x e = rw (e, drain)
+
+pub drain-end : (p k : ℕ) (t : Table) → drain 0 p k t ≡ drained t []
+unfolding drain
+drain-end p k t = refl
+
+pub drain-spent : (n p : ℕ) (t : Table) → drain n p 0 t ≡ drained t []
+unfolding drain
+drain-spent zero p t = refl
+drain-spent (suc n) p t = refl
+
+-- ---- m positions, and then the n after them
+
+-- of k pairs, what d has not taken out yet, at the n positions from e upwards
+abbrev pub drainThen : ℕ → ℕ → ℕ → Drained → Drained
+drainThen n e k d =
+    let r = drain n e (k - length (d .out)) (d .left) in
+    drained (r .left) (d .out ++ r .out)
+
+pub drain-append : (m n p k : ℕ) (t : Table) (s e : ℕ) → s ≡ m + n → e ≡ m + p → drain s p k t ≡ drainThen n e k (drain m p k t)
+drain-append zero n p k t s e a b =
+    let all : k ≡ k - 0 = omega arith in
+    let count : s ≡ n = omega arith in
+    let from : p ≡ e = omega arith in
+    (λ i. drain (count i) (from i) (all i) t) ∙ ap (drainThen n e k) (sym (drain-end p k t))
+drain-append (suc m) n p zero t s e a b =
+    drain-spent s p t ∙ ap (λ (r : Drained). drained (r .left) ([] ++ r .out)) (sym (drain-spent n e t)) ∙ ap (drainThen n e 0) (sym (drain-spent (suc m) p t))
+drain-append (suc m) n p (suc k) t s e a b =
+    let count : s ≡ suc (m + n) = omega arith in
+    ap (λ (x : ℕ). drain x p (suc k) t) count
+    ∙ case (t p)
+    (λ f. drain-free (m + n) p k t f ∙ drain-append m n (suc p) (suc k) t (m + n) e refl (omega arith) ∙ ap (drainThen n e (suc k)) (sym (drain-free m p k t f)))
+    (λ x f.
+    let d = drain m (suc p) k (at t p none) in
+    let left : k - length (d .out) ≡ suc k - length (x .value ∷ d .out) = omega arith in
+    drain-held (m + n) p k t x f
+    ∙ ap (λ (r : Drained). drained (r .left) (x .value ∷ r .out)) (drain-append m n (suc p) k (at t p none) (m + n) e refl (omega arith))
+    ∙ ap (λ (y : ℕ). drained (drain n e y (d .left) .left) ((x .value ∷ d .out) ++ drain n e y (d .left) .out)) left
+    ∙ ap (drainThen n e (suc k)) (sym (drain-held m p k t x f)))
 
 -- ---- nothing is lost
 

@@ -50,7 +50,7 @@ at-apart : (t u : Table) (p : ℕ) (o : Option Pair) → ((q : ℕ) → held (t 
     → (q : ℕ) → held (at t p o q) + held (u q) ≤ 1
 at-apart t u p o h k q = bool (eqb q p) (λ i. rw i (rw (eqb-true q p i) k)) (λ i. rw i (h q))
 
-count-some : (a b : ℕ) → 0 < rangeCount a b
+pub count-some : (a b : ℕ) → 0 < rangeCount a b
 unfolding rangeCount
 count-some a b = omega arith
 

@@ -9,6 +9,8 @@ use lib.ListN.{length, take, drop, getD, set, length-take, length-drop, length-a
 use lib.Seq.{length-take-le, take-at, drop-at, getD-take, getD-drop, getD-append-add, ext-getD, getD-set-same, getD-set-other}
 use borrow.Author.Tests.{eq-eqb, ne-eqb, lt-ltb, le-ltb, ltb-true}
 use Rattle.words.specs.Cases.{bool}
+use Rattle.window.specs.Memory.{capacity, pageCount}
+use Rattle.window.specs.MemoryLaws.{capacity-pages}
 use Rattle.model.specs.Window.{upd, cellsAt}
 use Rattle.model.specs.Pages.{setValue}
 use Rattle.pages.specs.declared.PageWords.{PageWords}
@@ -107,6 +109,14 @@ module _ (g : ℕ) (xs ys : List ℕ) (within : 64 * g + 64 ≤ length xs) (full
   with-part-past n h =
       ext-getD 0 _ _ (simp (length-drop, with-part-length))
       (λ i m. getD-drop (64 * n) (withPart g xs ys) i 0 ∙ at-after (64 * n + i) (omega arith) ∙ sym (getD-drop (64 * n) xs i 0))
+
+-- what lies past a window of this size
+
+pub part-past : (size g : ℕ) (xs ys : List ℕ) → g < pageCount size → capacity size ≤ length xs → length ys ≡ 64
+    → drop (capacity size) (withPart g xs ys) ≡ drop (capacity size) xs
+part-past size g xs ys l long full =
+    let c = capacity-pages size in
+    ap (λ (k : ℕ). drop k (withPart g xs ys)) c ∙ with-part-past g xs ys (omega arith) full (pageCount size) l ∙ ap (λ (k : ℕ). drop k xs) (sym c)
 
 -- ---- a page with one value written
 

@@ -23,7 +23,7 @@ use Rattle.pages.specs.declared.find.Read.{Read}
 use Rattle.pages.specs.declared.find.Read.the-variants.{Absent, Value}
 use Rattle.pages.specs.Page.{wordsAt, partOf, withPart, page, Placed}
 use Rattle.pages.specs.Contracts.{readAnswer, readOf, exchanged, Exchanges}
-use Rattle.pages.specs.PartLaws.{with-part-length}
+use Rattle.pages.specs.PartLaws.{with-part-length, part-past}
 use Rattle.pages.specs.DecodeLaws.{page-at}
 use Rattle.calls.specs.Answers.{answerOf, replied, stateOf, leftOf}
 use Rattle.calls.specs.Contracts.{Reachable}
@@ -31,7 +31,7 @@ use Rattle.calls.specs.MeetsLaws.{Writes}
 use Rattle.calls.specs.FitLaws.{sequence-bounds}
 use Rattle.calls.specs.ReachLaws.{unreachable, is-reachable}
 use Rattle.pages.specs.LiveLaws.{page-placed, live-none, live-is}
-use Rattle.points.proofs.Placing.{same-page, part-past, decode-values}
+use Rattle.points.proofs.Placing.{same-page, decode-values}
 
 -- ---- what a read answers is no refusal
 

@@ -1,73 +1,34 @@
 -- insert, over plain variables: how its two ways meet the contract of every call. Assumes nothing.
-use mathlib.Core.Path.{_≡_, refl, sym, ap, _∙_, subst}
-use mathlib.Core.Bool.{Bool, true, false, not, true≢false}
+use mathlib.Core.Path.{_≡_, refl, sym, ap, _∙_}
+use mathlib.Core.Bool.{true}
 use mathlib.Core.List.{List, []}
 use Prim.Native.Nat.{ℕ, _+_, _*_, _/_, _≤_, _<_}
 use native.Mathlib.Omega.{arith}
 use lib.Dec.{leb}
-use lib.ListN.{length, take, drop, length-take}
-use borrow.Author.Tests.{not-true, not-false, le-leb}
-use Rattle.words.specs.Cases.{bool, both}
+use lib.ListN.{length, drop}
+use borrow.Author.Tests.{le-leb}
 use Rattle.window.specs.declared.AdaptiveReceiverPacketWindow.{AdaptiveReceiverPacketWindow}
 use Rattle.window.specs.declared.answers.Step.{Step}
-use Rattle.window.specs.declared.refusals.Refusal.the-variants.{ShortMemory}
 use Rattle.window.specs.Memory.{memory, position, capacity, pageCount, blockCount}
-use Rattle.window.specs.Refusals.{fits, fitsWithList}
-use Rattle.window.specs.RefusalLaws.{Fits, fits-with-list-is}
-use Rattle.model.specs.Calls.{insert, refused}
+use Rattle.window.specs.RefusalLaws.{Fits}
+use Rattle.model.specs.Calls.{insert}
 use Rattle.model.specs.Window.{Window, decode, isRetired}
 use Rattle.model.specs.Pages.{insertPage}
 use Rattle.model.specs.Steps.{Returned, returnedBy, Effect, effect, windowStep, insertStep, revive}
 use Rattle.model.specs.Sound.{Sound}
-use Rattle.model.specs.Contract.{refusal, SamePast, SameLengths, Meets}
-use Rattle.pages.specs.PartLaws.{with-part-length}
+use Rattle.model.specs.Contract.{SamePast, SameLengths}
+use Rattle.pages.specs.PartLaws.{with-part-length, part-past}
 use Rattle.releases.specs.Contracts.{Within}
-use Rattle.calls.specs.Answers.{replied, refusedBy, stateOf, leftOf}
-use Rattle.calls.specs.Contracts.{Reachable}
-use Rattle.calls.specs.MeetsLaws.{Writes, refused-meets, write-meets}
+use Rattle.calls.specs.Answers.{replied, stateOf, leftOf}
+use Rattle.calls.specs.Contracts.{Reachable, Fills}
+use Rattle.calls.specs.MeetsLaws.{Writes}
+use Rattle.calls.specs.ListLaws.{fills-writes}
 use Rattle.calls.specs.FitLaws.{page-bounds}
-use Rattle.calls.specs.ReplyLaws.{not-check}
 use Rattle.calls.specs.ReachLaws.{unreachable, is-reachable}
 use Rattle.points.specs.declared.insert.Put.{Put}
 use Rattle.points.specs.Contracts.{afterPut, Cells, Placing, InsertsLive}
-use Rattle.points.proofs.Placing.{part-past}
 use Rattle.points.proofs.Exchanging.{below, cells-in}
 use Rattle.points.proofs.Reviving.{InsertsRetired}
-
--- ---- the refusal for short lists
-
-module _ (h : AdaptiveReceiverPacketWindow) (ss vs pages blocks l : List ℕ) (s v : ℕ) (b : Bool)
-    (test : b ≡ fitsWithList h (length ss) (length vs) (length pages) (length blocks) (length l)) where
-  short : not b ≡ true → refusal (stateOf h ss vs pages blocks) (insert s v (leb 384 (length l))) ≡ 6
-  unfolding fitsWithList
-  short t =
-      let e = sym test ∙ not-true b t in
-      bool (leb 384 (length l))
-      (λ x. bool (fits h (length ss) (length vs) (length pages) (length blocks)) (λ y. absurd (true≢false (sym (rw (x, y) refl) ∙ e))) (λ y. rw y))
-      (λ x. bool (fits h (length ss) (length vs) (length pages) (length blocks)) (λ y. rw (x, y)) (λ y. rw y))
-
-  pub short-list : (r : Step) → not b ≡ true → r ≡ refusedBy h ShortMemory
-      → Meets (insert s v (leb 384 (length l))) (stateOf h ss vs pages blocks) l (leftOf r ss vs pages blocks l)
-  short-list r t e =
-      subst (λ (x : Step). Meets (insert s v (leb 384 (length l))) (stateOf h ss vs pages blocks) l (leftOf x ss vs pages blocks l)) (sym e)
-      (refused-meets (insert s v (leb 384 (length l))) (stateOf h ss vs pages blocks) l 6 (short t) (λ z. omega arith))
-
-  pub long-list : not b ≡ false → (384 ≤ length l) × Fits h (length ss) (length vs) (length pages) (length blocks)
-  long-list t = fits-with-list-is h (length ss) (length vs) (length pages) (length blocks) (length l) (sym test ∙ not-false b t)
-
-  -- with the lists long enough
-  no-refusal : not b ≡ false → refusal (stateOf h ss vs pages blocks) (insert s v (leb 384 (length l))) ≡ 0
-  unfolding fitsWithList
-  no-refusal t =
-      let e = both (leb 384 (length l)) (fits h (length ss) (length vs) (length pages) (length blocks)) (sym test ∙ not-false b t) in
-      rw (e .1, e .0)
-
-  pub writes-meet : (r : Step) (ss′ vs′ pages′ blocks′ l′ : List ℕ) → not b ≡ false
-      → Writes (insert s v (leb 384 (length l))) (stateOf h ss vs pages blocks) l (leftOf r ss′ vs′ pages′ blocks′ l′)
-      → Meets (insert s v (leb 384 (length l))) (stateOf h ss vs pages blocks) l (leftOf r ss′ vs′ pages′ blocks′ l′)
-  writes-meet r ss′ vs′ pages′ blocks′ l′ t w =
-      write-meets (insert s v (leb 384 (length l))) (stateOf h ss vs pages blocks) l (leftOf r ss′ vs′ pages′ blocks′ l′)
-      (not-check (insert s v (leb 384 (length l))) refl) (no-refusal t) w
 
 -- ---- p is the sequence's position, k is what `reachable` says of its page
 
@@ -123,30 +84,20 @@ module _ (h : AdaptiveReceiverPacketWindow) (ss vs pages blocks l : List ℕ) (s
       retired : Sound (decode h (memory ss vs pages blocks)) → isRetired (decode h (memory ss vs pages blocks)) (p / 64) ≡ true
       retired ok = unreachable h (memory ss vs pages blocks) ok g under k reach z
 
-      back : Sound (decode h (memory ss vs pages blocks)) → take (r .answer .count) l′ ≡ revive (decode h (memory ss vs pages blocks)) (p / 64) .out
-      back ok = t .out (placing ok) (retired ok)
-
-      few : take (r .answer .count) l′ ≡ take (r .answer .count) l′ → length (take (r .answer .count) l′) ≡ r .answer .count
-      few q = length-take (r .answer .count) l′ ∙ omega (arith, t .few, t .wrote .long)
+      retired-fills : Fills (λ (w : Window). windowStep w (insert s v (leb 384 (length l)))) (stateOf h ss vs pages blocks) l (leftOf r ss′ vs′ pages′ blocks′ l′)
+      retired-fills = record {
+        wrote = t .wrote;
+        few = omega (arith, t .few);
+        taken = t .taken;
+        past = past;
+        lengths = lengths;
+        gives = λ ok. (λ i. effect (t .gives (placing ok) (retired ok) i) (t .answer (placing ok) (retired ok) i) (t .out (placing ok) (retired ok) i)) ∙ sym step-is;
+      }
 
       pub retired-writes : Writes (insert s v (leb 384 (length l))) (stateOf h ss vs pages blocks) l (leftOf r ss′ vs′ pages′ blocks′ l′)
-      retired-writes = record {
-        sound = λ ok. record {
-          answer = t .answer (placing ok) (retired ok) ∙ ap (λ (x : Effect). x .answer) (sym step-is);
-          window = t .gives (placing ok) (retired ok) ∙ ap (λ (x : Effect). x .after) (sym step-is);
-          returned = back ok ∙ ap (λ (x : Effect). x .returned) (sym step-is);
-          count = sym (few refl) ∙ ap length (back ok) ∙ ap (λ (x : Effect). length (x .returned)) (sym step-is);
-        };
-        occupied = λ ok q. absurd (t .taken q);
-        none-with-4 = λ q. absurd (t .taken q);
-        past-list =
-            let c : 0 + r .answer .count ≡ r .answer .count = omega arith in
-            ap (λ (x : ℕ). drop x l′) (sym c) ∙ t .wrote .past ∙ ap (λ (x : ℕ). drop x l) c;
-        long-list = t .wrote .long;
-        count-fits = omega (arith, t .few, long);
-        past-memory = past;
-        lengths = lengths;
-      }
+      retired-writes =
+          fills-writes (λ (w : Window). windowStep w (insert s v (leb 384 (length l)))) (insert s v (leb 384 (length l))) (stateOf h ss vs pages blocks) l
+          (leftOf r ss′ vs′ pages′ blocks′ l′) long refl retired-fills
 
     -- ---- the page is live
     module _ (q : Put) (n : k ≡ 0 → ⊥) (t : InsertsLive h ss vs pages blocks (p / 64) (h .n) s v q ss′ vs′ pages′ blocks′) where

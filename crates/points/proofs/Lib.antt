@@ -1,5 +1,4 @@
 -- Laws over plain variables that the proofs cite.
-pub mod Parts
 pub mod Placing
 pub mod Exchanging
 pub mod Removing

@@ -1,19 +1,17 @@
--- The lists after one page was written: what lies past the named lengths stays, and a page written as it was changes nothing.
+-- The lists after one page was written; a page written as it was changes nothing.
 -- Assumes nothing.
 use mathlib.Core.Path.{_≡_, refl, sym, ap, _∙_}
 use mathlib.Core.List.{List}
 use Prim.Native.Nat.{ℕ, _+_, _*_, _≤_, _<_}
-use native.Mathlib.Omega.{arith}
 use native.Mathlib.Decide.{ℕ-discrete}
-use lib.ListN.{length, drop}
+use lib.ListN.{length}
 use borrow.Author.Tests.{lt-ltb, eq-eqb, ne-eqb}
 use Rattle.window.specs.declared.AdaptiveReceiverPacketWindow.{AdaptiveReceiverPacketWindow}
-use Rattle.window.specs.Memory.{Memory, memory, capacity, pageCount}
-use Rattle.window.specs.MemoryLaws.{capacity-pages}
+use Rattle.window.specs.Memory.{Memory, memory, pageCount}
 use Rattle.model.specs.Window.{Window, decode, pageAt, upd}
 use Rattle.model.specs.Steps.{withPage}
 use Rattle.pages.specs.Page.{wordsAt, partOf, withPart, cells, page}
-use Rattle.pages.specs.PartLaws.{cells-part, cells-other, part-length, part-own, part-same, with-part-past}
+use Rattle.pages.specs.PartLaws.{cells-part, cells-other, part-length, part-own, part-same}
 
 -- ---- a page written as it was
 
@@ -22,14 +20,6 @@ page-own v g r = elim (ℕ-discrete r g) [ yes e ↦ rw (e, eq-eqb g g refl) | n
 
 pub same-page : (v : Window) (g : ℕ) → withPage v g (v .pages g) ≡ v
 same-page v g = λ i. record { header = v .header; pages = λ r. page-own v g r i; blocks = v .blocks }
-
--- ---- what lies past the window
-
-pub part-past : (size g : ℕ) (xs ys : List ℕ) → g < pageCount size → capacity size ≤ length xs → length ys ≡ 64
-    → drop (capacity size) (withPart g xs ys) ≡ drop (capacity size) xs
-part-past size g xs ys l long full =
-    let c = capacity-pages size in
-    ap (λ (k : ℕ). drop k (withPart g xs ys)) c ∙ with-part-past g xs ys (omega arith) full (pageCount size) l ∙ ap (λ (k : ℕ). drop k xs) (sym c)
 
 -- ---- the cells of one page written, its words as they were
 

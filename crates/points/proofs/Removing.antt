@@ -23,7 +23,7 @@ use Rattle.pages.specs.declared.PageWords.{PageWords}
 use Rattle.pages.specs.declared.find.Read.the-variants as read
 use Rattle.pages.specs.Page.{wordsAt, partOf, withPart, page, Placed}
 use Rattle.pages.specs.Contracts.{readAnswer, readOf}
-use Rattle.pages.specs.PartLaws.{with-part-length}
+use Rattle.pages.specs.PartLaws.{with-part-length, part-past}
 use Rattle.pages.specs.DecodeLaws.{page-at}
 use Rattle.page_remove.specs.declared.Removed.{Removed}
 use Rattle.page_remove.specs.Remove.{RemovedPage, removedOf, removePage}
@@ -39,7 +39,7 @@ use Rattle.calls.specs.Contracts.{Reachable}
 use Rattle.calls.specs.MeetsLaws.{Writes}
 use Rattle.calls.specs.FitLaws.{page-bounds}
 use Rattle.pages.specs.LiveLaws.{page-placed}
-use Rattle.points.proofs.Placing.{same-page, part-past, decode-cells}
+use Rattle.points.proofs.Placing.{same-page, decode-cells}
 use Rattle.points.proofs.Exchanging.{no-refusal, below, cells-in, gone, there}
 
 -- ---- found or not, by the answer
@@ -92,7 +92,7 @@ module _ (h : AdaptiveReceiverPacketWindow) (ss vs pages blocks : List ℕ) (s p
   -- what the step does, by what the page gives
   step-found : (r ≡ 0 → ⊥) → Sound (decode h (memory ss vs pages blocks)) → finds s (standsAt here (s % 64)) ≡ true
       → removeStep (decode h (memory ss vs pages blocks)) s .after
-      ≡ afterRemove (withPage (decode h (memory ss vs pages blocks)) g (removePage (h .«demote_at») here s .page)) g (removePage (h .«demote_at») here s .demoted)
+      ≡ afterRemove (withPage (decode h (memory ss vs pages blocks)) g (removePage (h .«demote_at») here s .page)) g (removePage (h .«demote_at») here s .demoted) 1
   unfolding removeStep decode
   step-found n ok t =
       let is = page-at h (memory ss vs pages blocks) g under in
@@ -165,7 +165,7 @@ module _ (h : AdaptiveReceiverPacketWindow) (ss vs pages blocks : List ℕ) (s p
 
     -- ---- the sequence had value v: the page's words and its block's were written
     module _ (v : ℕ) (win : AdaptiveReceiverPacketWindow) (pages′ blocks′ : List ℕ)
-        (stored : Stores (updates.Removed h (blockWordsAt blocks (p / 64 / 64)) (p / 64) (holds (x .words)) (x .demoted)) pages blocks (p / 64) (x .words) win pages′ blocks′)
+        (stored : Stores (updates.Removed h (blockWordsAt blocks (p / 64 / 64)) (p / 64) (holds (x .words)) (x .demoted) 1) pages blocks (p / 64) (x .words) win pages′ blocks′)
         (third : 3 * pageCount (h .«window_size») ≤ length pages) (fourth : 3 * blockCount (h .«window_size») ≤ length blocks) where
       abbrev after : Window
       after = withPage before g (page (x .words) xs ys)
@@ -174,7 +174,7 @@ module _ (h : AdaptiveReceiverPacketWindow) (ss vs pages blocks : List ℕ) (s p
       in-block = page-bounds (h .«window_size») g under .block
 
       changes : changed (withPage (decode h (memory ss vs pages blocks)) g (page (x .words) xs ys)) (g / 64) (change _ _ _ _ _ _ _ _ stored)
-          ≡ afterRemove (withPage (decode h (memory ss vs pages blocks)) g (page (x .words) xs ys)) g (x .demoted)
+          ≡ afterRemove (withPage (decode h (memory ss vs pages blocks)) g (page (x .words) xs ys)) g (x .demoted) 1
       unfolding decode
       changes = stored .changes .gives after refl (block-at h (memory ss vs pages blocks) (g / 64) in-block) (ap holdsValue (put-there before g (page (x .words) xs ys)))
 
@@ -214,5 +214,5 @@ module _ (h : AdaptiveReceiverPacketWindow) (ss vs pages blocks : List ℕ) (s p
               decode-stored _ pages blocks g (x .words) win pages′ blocks′ stored h ss vs xs ys same-size under in-block
               (omega (arith, under)) fourth in-first in-second full filled
               ∙ changes
-              ∙ (λ i. afterRemove (withPage before g (is-removed ok i .page)) g (is-removed ok i .demoted))
+              ∙ (λ i. afterRemove (withPage before g (is-removed ok i .page)) g (is-removed ok i .demoted) 1)
               ∙ sym (step-found n ok (held ok))

@@ -36,21 +36,10 @@ use Rattle.releases.specs.declared.PageReleased.{PageReleased}
 use Rattle.releases.specs.Contracts.{Within, Inside, Revives}
 use Rattle.soundness.specs.PointLaws.{proper-decode}
 use Rattle.soundness.specs.ReviveLaws.{Revived, revive-revives}
-use Rattle.calls.specs.Answers.{answerOf}
+use Rattle.calls.specs.Answers.{answerOf, numberOf}
 use Rattle.points.proofs.Exchanging.{isRefusal}
 use Rattle.points.specs.declared.insert.Put.{Put}
 use Rattle.points.specs.Contracts.{afterPut, Cells, Placing, InsertsLive, RevivedAnswer}
-
--- the number of a refusal
-abbrev number : model.Answer → ℕ
-number model.done = 0
-number model.new = 0
-number (model.replaced v) = 0
-number model.absent = 0
-number (model.found n) = 0
-number (model.pair s v next) = 0
-number (model.released values units) = 0
-number (model.refused k) = k
 
 -- ---- words written twice
 
@@ -137,7 +126,7 @@ module _ (h : AdaptiveReceiverPacketWindow) (ss vs pages blocks : List ℕ) (g n
           values = same-cells g vs second;
           wrote = t .wrote;
           few = t .few;
-          taken = λ q. omega (arith, ap number q);
+          taken = λ q. omega (arith, ap numberOf q);
           answer = λ q. absurd (never q);
           gives = λ q. absurd (never q);
           out = λ q. absurd (never q);
@@ -207,7 +196,7 @@ module _ (h : AdaptiveReceiverPacketWindow) (ss vs pages blocks : List ℕ) (g n
 
 pub refused-revived : (a : Answer) (why : Refusal) → a ≡ Refused why → RevivedAnswer a (Refused Unsound)
 refused-revived a why e = record {
-  taken = λ q. omega (arith, ap number q);
+  taken = λ q. omega (arith, ap numberOf q);
   same = λ q. absurd (true≢false (sym q ∙ ap (λ (x : Answer). isNew (answerOf x)) e));
 }
 

@@ -50,7 +50,7 @@ pub fn remove(
     let read = r.answer;
     if let Read::Value(value) = read {
         let left = r.words;
-        let window = store_removed(w, pages, blocks, page, left, r.demoted);
+        let window = store_removed(w, pages, blocks, page, left, r.demoted, 1);
         return reply(window, Answer::Found(value));
     }
     reply(w, Answer::Absent)

@@ -1,10 +1,21 @@
 -- The window seen from its positions: definitions (Seen), laws on bookkeeping and one page or position replaced (SeenLaws), on marks
--- (MarkLaws), on a page released or revived (ReleaseLaws), on the calls that retire nothing (PointLaws), on refusal 7 (AnswerLaws),
--- and on states (StateLaws).
+-- (MarkLaws), on a page released or revived (ReleaseLaws), on the calls that retire nothing (PointLaws), on how many are retired
+-- (CountLaws) and a release over several pages (VisitLaws), on positions emptied value by value (SlotLaws), pages newly retired
+-- (MoveLaws, RetireLaws) and ranges (RangeLaws), on everything retired (ClearLaws, ClearBoundedLaws), on every call (CallLaws), on
+-- refusal 7 (AnswerLaws), and on states (StateLaws).
 pub mod Seen
 pub mod SeenLaws
 pub mod MarkLaws
 pub mod ReleaseLaws
 pub mod PointLaws
+pub mod CountLaws
+pub mod VisitLaws
+pub mod SlotLaws
+pub mod MoveLaws
+pub mod RetireLaws
+pub mod RangeLaws
+pub mod ClearLaws
+pub mod ClearBoundedLaws
+pub mod CallLaws
 pub mod AnswerLaws
 pub mod StateLaws

@@ -2,7 +2,7 @@
 use mathlib.Core.Path.{_≡_, refl, sym, ap, _∙_}
 use mathlib.Core.Bool.{Bool, true, false, cond, _||_, true≢false}
 use mathlib.Core.Option.{none}
-use mathlib.Core.Logic.{_⊎_, inl, inr}
+use mathlib.Core.Logic.{_⊎_, inl, inr, ⊎-elim}
 use Prim.Native.Nat.{ℕ, _/_, _%_, _≤_}
 use native.Mathlib.Omega.{arith}
 use native.Mathlib.Decide.{ℕ-discrete, decLt}
@@ -21,11 +21,24 @@ use Rattle.pages.specs.Page.{Placed}
 use Rattle.pages.specs.PlaceLaws.{placed}
 use Rattle.pages.specs.StandLaws.{stands-none}
 use Rattle.page_remove.specs.StandLaws.{emptied-placed}
-use Rattle.soundness.specs.Change.{NothingPast}
+use Rattle.soundness.specs.Change.{NothingPast, Proper, noted}
 use Rattle.soundness.specs.SumLaws.{sum-same, sum-part}
-use Rattle.soundness.specs.SplitLaws.{unnoted-empty}
+use Rattle.soundness.specs.SplitLaws.{unnoted-empty, split-status}
 use Rattle.refinement.specs.Seen.{positionsOf}
 use Rattle.refinement.specs.SeenLaws.{SameView, view-retired}
+
+-- ---- an empty page
+
+pub empty-stands : (n : ℕ) (p : Page) → Placed n p → p .occupied ≡ 0 → (j : ℕ) → standsAt p j ≡ none
+empty-stands n p ok e j = stands-none n p ok j (ap (λ (x : ℕ). bitAt x j) e ∙ bit-none j)
+
+-- nothing stands at its positions, live or retired
+module _ (n : ℕ) (w : Window) (q : ℕ) (ok : Placed n (w .pages (q / 64))) (e : w .pages (q / 64) .occupied ≡ 0) where
+  pub empty-live : liveAt w q ≡ none
+  empty-live = bool (isRetired w (q / 64)) (λ r. rw r) (λ r. rw r (empty-stands n (w .pages (q / 64)) ok e (q % 64)))
+
+  pub empty-retired : retiredAt w q ≡ none
+  empty-retired = bool (isRetired w (q / 64)) (λ r. rw r (empty-stands n (w .pages (q / 64)) ok e (q % 64))) (λ r. rw r)
 
 -- ---- what the laws ask of a window: on every page the values are in their places, past the last page there is none, and
 -- retired_held counts the retired
@@ -45,6 +58,9 @@ in-order w ok past = record {
   held = ok .held;
 }
 
+pub proper-order : (w : Window) → Proper w → InOrder (w .header .n) (pagesOf w) w
+proper-order w ok = in-order w (ok .sound) (ok .past)
+
 -- ---- windows with the same pages, and the same marks on pages that hold a value
 
 pub record SameShown (w v : Window) : Type 0 where
@@ -53,7 +69,7 @@ pub record SameShown (w v : Window) : Type 0 where
   pub marks : (g : ℕ) → (isRetired v g ≡ isRetired w g) ⊎ (w .pages g .occupied ≡ 0)
 
 -- what does not depend on the mark
-either-mark : {A : Type 0} (f : Bool → A) (a b : Bool) → (a ≡ b) ⊎ (f true ≡ f false) → f a ≡ f b
+pub either-mark : {A : Type 0} (f : Bool → A) (a b : Bool) → (a ≡ b) ⊎ (f true ≡ f false) → f a ≡ f b
 either-mark f a b (inl e) = ap f e
 either-mark f true true (inr e) = refl
 either-mark f true false (inr e) = e
@@ -68,7 +84,7 @@ module _ (w v : Window) (s : SameShown w v) where
   shown-seen n ok = λ i. record { live = λ q. live q i; retired = λ q. retired q i; cursor = s .cursor i }
     where
       nothing : (q : ℕ) → w .pages (q / 64) .occupied ≡ 0 → standsAt (w .pages (q / 64)) (q % 64) ≡ none
-      nothing q e = stands-none n (w .pages (q / 64)) (ok (q / 64)) (q % 64) (ap (λ (x : ℕ). bitAt x (q % 64)) e ∙ bit-none (q % 64))
+      nothing q e = empty-stands n (w .pages (q / 64)) (ok (q / 64)) e (q % 64)
 
       live : (q : ℕ) → liveAt v q ≡ liveAt w q
       live q =
@@ -97,7 +113,7 @@ module _ (w v : Window) (s : SameShown w v) where
 pub view-shown : (w v : Window) → SameView w v → SameShown w v
 view-shown w v s = record { pages = s .pages; cursor = s .cursor; marks = λ g. inl (view-retired w v s g) }
 
-shown-self : (w : Window) → SameShown w w
+pub shown-self : (w : Window) → SameShown w w
 shown-self w = record { pages = refl; cursor = refl; marks = λ g. inl refl }
 
 -- ---- an emptied page loses its mark
@@ -181,29 +197,23 @@ module _ (w : Window) (b : ℕ) where
   unfolding splitBlock
   split-held = bool (isSet (w .header .«retired_blocks») b) (λ t. rw t) (λ t. rw t)
 
+-- where every page that is not noted is empty
+pub split-shown : (w : Window) (b : ℕ) → ((g : ℕ) → (noted w g ≡ 1 → ⊥) → w .pages g .occupied ≡ 0) → SameShown w (splitBlock w b)
+unfolding splitBlock
+split-shown w b empty =
+    bool (isSet (w .header .«retired_blocks») b)
+    (λ t. rw t (record { pages = refl; cursor = refl; marks = λ g. ⊎-elim (λ e. inr e) (λ e. inl e) (split-status w b t empty g) }))
+    (λ t. rw t (shown-self w))
+
 module _ (w : Window) (ok : Sound w) (past : NothingPast w) where
-  pub split-shown : (b : ℕ) → SameShown w (splitBlock w b)
-  unfolding splitBlock
-  split-shown b =
-      bool (isSet (w .header .«retired_blocks») b)
-      (λ t. rw t (record {
-        pages = refl;
-        cursor = refl;
-        marks = λ g. elim (ℕ-discrete (g / 64) b) [
-          | yes e ↦ elim (ℕ-discrete (bitAt (w .blocks (g / 64) .nonempty) (g % 64)) 1) [
-            | yes o ↦ inl (rw (eq-eqb (g / 64) b e, e, with-same (w .header .«retired_blocks») b 0 (omega arith), t) (eq-eqb (bitAt (w .blocks b .nonempty) (g % 64)) 1 (rw e at o)))
-            | no o ↦ inr (unnoted-empty w (record { sound = ok; past = past }) g o)
-          ]
-          | no e ↦ inl (rw (ne-eqb (g / 64) b e, with-other (w .header .«retired_blocks») b 0 (g / 64) (omega arith) e))
-        ];
-      }))
-      (λ t. rw t (shown-self w))
+  shown : (b : ℕ) → SameShown w (splitBlock w b)
+  shown b = split-shown w b (unnoted-empty w (record { sound = ok; past = past }))
 
   pub split-seen : (b : ℕ) → positionsOf (splitBlock w b) ≡ positionsOf w
-  split-seen b = shown-seen w (splitBlock w b) (split-shown b) (w .header .n) (in-order w ok past .places)
+  split-seen b = shown-seen w (splitBlock w b) (shown b) (w .header .n) (in-order w ok past .places)
 
   pub split-order : (b : ℕ) → InOrder (w .header .n) (pagesOf w) (splitBlock w b)
-  split-order b = shown-order w (splitBlock w b) (split-shown b) (w .header .n) (pagesOf w) (split-held w b) (in-order w ok past)
+  split-order b = shown-order w (splitBlock w b) (shown b) (w .header .n) (pagesOf w) (split-held w b) (in-order w ok past)
 
   pub drop-seen : positionsOf (dropBlockMarks w) ≡ positionsOf w
   drop-seen = let o = in-order w ok past in shown-seen w (dropBlockMarks w) (drop-shown (w .header .n) (pagesOf w) w o) (w .header .n) (o .places)

@@ -27,7 +27,7 @@ use Rattle.page_remove.specs.RemoveLaws.{remove-when-found, remove-stands}
 use Rattle.soundness.specs.Change.{NothingPast, isPoint}
 use Rattle.soundness.specs.ExchangeRemoveLaws.{page-lt}
 use Rattle.refinement.specs.Seen.{positionsOf, Follows}
-use Rattle.refinement.specs.SeenLaws.{view-seen, view-then, note-view, add-view, sub-view, promotion-view, demotion-view, live-here, point-seen}
+use Rattle.refinement.specs.SeenLaws.{view-seen, view-then, note-view, add-view, promotion-view, fewer-seen, live-here, point-seen}
 use Rattle.refinement.specs.ReleaseLaws.{Releases, revive-page, revived-live}
 
 -- ---- one position of the live table replaced, if the sequence is found there
@@ -101,11 +101,7 @@ module _ (w : Window) (s : ℕ) where
         → positionsOf (countDemotion (putPage (subLive w (x / 64 / 64) 1) (x / 64) (afterRemoval d rest)) (demotes d rest)) ≡ pointed (positionsOf w) x (removeAt s)
     removed-page t =
         let f = found-live t in
-        let a = withPage w (x / 64) (afterRemoval d rest) in
-        let b = subLive a (x / 64 / 64) 1 in
-        let c = noteNonempty b (x / 64) in
-        let e = countDemotion c (demotes d rest) in
-        view-seen a e (view-then a c (view-then a b (sub-view a (x / 64 / 64) 1) c (note-view b (x / 64))) e (demotion-view c (demotes d rest)))
+        fewer-seen w (x / 64) 1 (afterRemoval d rest) (demotes d rest)
         ∙ point-seen w x (afterRemoval d rest) (removeAt s) (f .0)
         (λ j l. rw (position-slot (sizeOf w) s)
         (ap (λ (r : RemovedPage). standsAt (r .page) j) (sym (remove-when-found p s d (f .1))) ∙ remove-stands (w .header .n) p in-place s d j l))

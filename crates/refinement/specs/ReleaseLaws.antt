@@ -1,6 +1,6 @@
 -- A page released and a page revived: at the positions, the page's retired values are drained. Assumes nothing.
 use mathlib.Core.Path.{_≡_, refl, sym, ap, subst, _∙_}
-use mathlib.Core.Bool.{true, false, cond, _||_}
+use mathlib.Core.Bool.{true, false, cond, _&&_, _||_, and-false}
 use mathlib.Core.Option.{none}
 use mathlib.Core.List.{[]}
 use Prim.Native.Nat.{ℕ, zero, suc, _+_, _-_, _*_, _/_, _%_, _≤_, _<_}
@@ -9,53 +9,33 @@ use native.Mathlib.Decide.{ℕ-discrete, decLt}
 use lib.ListN.{length}
 use borrow.Author.Tests.{eq-eqb, ne-eqb}
 use Rattle.words.specs.Cases.{bool}
-use Rattle.words.specs.Word.{bitAt, isSet, count, lowest}
-use Rattle.words.specs.BitLaws.{bit-none}
-use Rattle.words.specs.CountLaws.{count-le, count-zero}
-use Rattle.words.specs.LowestLaws.{lowest-is, lowest-some}
+use Rattle.words.specs.Word.{isSet, count}
+use Rattle.words.specs.CountLaws.{count-le}
 use Rattle.model.specs.Table.{Table}
-use Rattle.model.specs.Window.{Page, Window, pagesOf, cellOf, standsAt, isRetired, liveAt, retiredAt}
-use Rattle.model.specs.Pages.{PageDrained, takeCell, unlessEmptied, drainPage}
+use Rattle.model.specs.Window.{Page, Window, pagesOf, standsAt, isRetired, liveAt, retiredAt}
+use Rattle.model.specs.Pages.{holdsValue, PageDrained, unlessEmptied, drainPage}
 use Rattle.model.specs.Positions.{Positions, positions, Drained, drained, drain}
 use Rattle.model.specs.Steps.{withHeader, setHeld, withPage, noteNonempty, dropBlockMarks, splitBlock, allPositions, Returned, returnedBy, releasePage, revive}
 use Rattle.model.specs.Sound.{Sound, retiredIn}
 use Rattle.pages.specs.Page.{Placed}
-use Rattle.pages.specs.PlaceLaws.{cell-some, cell-used, take-placed}
-use Rattle.page_remove.specs.StandLaws.{take-count, unless-stands, unless-placed, unless-count}
-use Rattle.page_remove.specs.DrainLaws.{drain-zero, drain-none, drain-first, drain-placed, drain-count, TableDrained, drain-positions-from}
+use Rattle.page_remove.specs.StandLaws.{unless-stands, unless-placed, unless-count}
+use Rattle.page_remove.specs.DrainLaws.{drain-placed, drain-count, TableDrained, drain-positions-from}
 use Rattle.soundness.specs.Change.{NothingPast}
 use Rattle.soundness.specs.SumLaws.{sum-but}
+use Rattle.soundness.specs.ReleaseLaws.{drain-whole}
 use Rattle.soundness.specs.SplitLaws.{split-unmarked}
 use Rattle.refinement.specs.Seen.{positionsOf}
-use Rattle.refinement.specs.SeenLaws.{view-seen, note-view, note-held, note-size, page-live, page-retired, retired-here, none-live-here, none-retired-here}
+use Rattle.refinement.specs.SeenLaws.{view-retired, view-seen, note-view, note-held, note-size, page-live, page-retired, retired-here, none-live-here, none-retired-here}
 use Rattle.refinement.specs.MarkLaws.{InOrder, in-order, SameShown, shown-seen, shown-order, view-shown, unmarked, unmarked-same, unmarked-shown, drop-shown, drop-order, drop-size, drop-live, split-seen, split-order}
 
 -- ---- draining
 
 -- of positions at which nothing stands
-nothing-drained : (m p k : ℕ) (t : Table) → ((q : ℕ) → p ≤ q → q < p + m → t q ≡ none) → drain m p k t ≡ drained t []
+pub nothing-drained : (m p k : ℕ) (t : Table) → ((q : ℕ) → p ≤ q → q < p + m → t q ≡ none) → drain m p k t ≡ drained t []
 unfolding drain
 nothing-drained zero p k t h = refl
 nothing-drained (suc m) p zero t h = refl
 nothing-drained (suc m) p (suc k) t h = rw (h p (omega arith) (omega arith), drain) (nothing-drained m (suc p) (suc k) t (λ q a b. h q (omega arith) (omega arith)))
-
--- with enough, the page is emptied
-all-drained : (n k : ℕ) (p : Page) → Placed n p → count (p .occupied) ≤ k → drainPage 64 0 allPositions k p .page .occupied ≡ 0
-all-drained n zero p ok l = ap (λ (d : PageDrained). d .page .occupied) (drain-zero allPositions 64 0 p) ∙ count-zero 64 (p .occupied) (ok .occupied-fits) (omega arith)
-all-drained n (suc k) p ok l = elim (ℕ-discrete (p .occupied) 0) [
-  | yes e ↦
-      ap (λ (d : PageDrained). d .page .occupied)
-      (drain-none allPositions (suc k) p (λ j a. ne-eqb (bitAt (p .occupied) j) 1 (λ z. omega (arith, ap (λ (x : ℕ). bitAt x j) e, bit-none j)))) ∙ e
-  | no e ↦
-      let q = lowest (p .occupied) 0 in
-      let i = lowest-is (p .occupied) 0 (omega arith) in
-      let m = lowest-some (p .occupied) (ok .occupied-fits) e in
-      let c = cell-some n p ok q m (i .held m) in
-      let u = cell-used p q c in
-      ap (λ (d : PageDrained). d .page .occupied)
-      (drain-first allPositions k q p m (eq-eqb (bitAt (p .occupied) q) 1 (i .held m)) (λ j a. ne-eqb (bitAt (p .occupied) j) 1 (λ z. omega (arith, i .none j (omega arith) a))) (u .1))
-      ∙ all-drained n k (takeCell p (cellOf p q)) (take-placed n p ok (cellOf p q) c (u .0)) (omega (arith, take-count n p ok (cellOf p q) c (u .0)))
-]
 
 -- ---- what is left and what comes out, where the positions were x
 
@@ -148,10 +128,11 @@ module _ (n pages : ℕ) (w : Window) (o : InOrder n pages w) (g : ℕ) (below :
   freed = unmarked noted g
 
   module _ (empty : d .page .occupied ≡ 0) where
+    emptied : noted .pages g .occupied ≡ 0
+    emptied = ap (λ (f : ℕ → Page). f g .occupied) (note-view changed g .pages) ∙ ap (λ (p : Page). p .occupied) (own-page g refl) ∙ rw (eq-eqb (d .page .occupied) 0 empty)
+
     freed-shown : SameShown noted freed
-    freed-shown =
-        unmarked-shown noted g
-        (ap (λ (f : ℕ → Page). f g .occupied) (note-view changed g .pages) ∙ ap (λ (p : Page). p .occupied) (own-page g refl) ∙ rw (eq-eqb (d .page .occupied) 0 empty))
+    freed-shown = unmarked-shown noted g emptied
 
     freed-order : InOrder n pages freed
     freed-order = shown-order noted freed freed-shown n pages refl noted-order
@@ -192,11 +173,20 @@ module _ (n pages : ℕ) (w : Window) (o : InOrder n pages w) (g : ℕ) (below :
     | no e ↦ rw (other-release e) (note-size changed g)
   ]
 
+  -- a page that holds a value still is retired
+  pub release-status : (isRetired (releasePage w g k .after) g && holdsValue (releasePage w g k .after .pages g)) ≡ holdsValue (releasePage w g k .after .pages g)
+  release-status = elim (ℕ-discrete (d .page .occupied) 0) [
+    | yes e ↦
+        let empty : releasePage w g k .after .pages g .occupied ≡ 0 = rw (empty-release e) (ap (λ (f : ℕ → Page). f g .occupied) (drop-shown n pages freed (freed-order e) .pages) ∙ emptied e) in
+        rw (eq-eqb (releasePage w g k .after .pages g .occupied) 0 empty) (and-false (isRetired (releasePage w g k .after) g))
+    | no e ↦ rw (other-release e, view-retired changed noted (note-view changed g) g, r)
+  ]
+
 -- a page released whole is live, if its block has no mark
 released-live : (n pages : ℕ) (w : Window) (o : InOrder n pages w) (g : ℕ) (below : g < pages) (r : isRetired w g ≡ true)
     → isSet (w .header .«retired_blocks») (g / 64) ≡ false → isRetired (releasePage w g 64 .after) g ≡ false
 released-live n pages w o g below r b =
-    let empty = all-drained n 64 (w .pages g) (o .places g) (count-le 64 (w .pages g .occupied)) in
+    let empty = drain-whole n 64 (w .pages g) (o .places g) (count-le 64 (w .pages g .occupied)) in
     let before = changed n pages w o g below r 64 in
     rw (empty-release n pages w o g below r 64 empty)
     (drop-live (freed n pages w o g below r 64) g

@@ -13,6 +13,7 @@ use Rattle.model.specs.Table.{Pair, at}
 use Rattle.model.specs.Window.{Page, Block, Window, upd, standsAt, isRetired, liveAt, retiredAt}
 use Rattle.model.specs.Positions.{positions}
 use Rattle.model.specs.Steps.{withHeader, withPage, noteNonempty, addLive, subLive, countPromotion, countDemotion}
+use Rattle.soundness.specs.PutLaws.{fewer}
 use Rattle.refinement.specs.Seen.{positionsOf}
 
 -- ---- steps that touch no page, no mark and not the cursor
@@ -79,6 +80,15 @@ module _ (w : Window) where
 
   pub demotion-view : (b : Bool) → SameView w (countDemotion w b)
   demotion-view b = header-view _ refl refl
+
+-- a page with fewer values put and counted: only the page matters
+pub fewer-seen : (w : Window) (g k : ℕ) (p : Page) (demoted : Bool) → positionsOf (fewer w g k p demoted) ≡ positionsOf (withPage w g p)
+fewer-seen w g k p demoted =
+    let a = withPage w g p in
+    let b = subLive a (g / 64) k in
+    let c = noteNonempty b g in
+    let e = countDemotion c demoted in
+    view-seen a e (view-then a c (view-then a b (sub-view a (g / 64) k) c (note-view b g)) e (demotion-view c demoted))
 
 -- ---- one page replaced: only its 64 positions change
 

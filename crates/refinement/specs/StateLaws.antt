@@ -1,5 +1,5 @@
--- Calls on sound states: what a contract that is met says of them, that a call on one sequence leaves a sound state and does at its
--- positions what `step` does, and that no sound state is refused 7. Assumes nothing.
+-- Calls on sound states: what a contract that is met says of them, that a call leaves a sound state and does at its positions what
+-- `step` does, and that no sound state is refused 7. Assumes nothing.
 use mathlib.Core.Path.{_≡_, refl, sym, ap, subst, _∙_}
 use mathlib.Core.Bool.{true, false, _&&_}
 use mathlib.Core.Option.{some}
@@ -22,11 +22,11 @@ use Rattle.model.specs.Sound.{Sound}
 use Rattle.model.specs.Contract.{State, windowOf, Left, argumentRefusal, lengthsFit, refusal, SameLengths, Does, Meets}
 use Rattle.model.specs.Heads.{Stepped}
 use Rattle.pages.specs.DecodeLaws.{header-at}
-use Rattle.soundness.specs.Change.{Limits, limitsOf, SameLimits, isPoint}
-use Rattle.soundness.specs.PointLaws.{decode-past, sound-point}
-use Rattle.soundness.specs.LimitLaws.{point-limits}
+use Rattle.soundness.specs.Change.{Proper, Limits, limitsOf, SameLimits}
+use Rattle.soundness.specs.PointLaws.{proper-decode}
+use Rattle.soundness.specs.CallLaws.{call-limits, sound-call}
 use Rattle.refinement.specs.Seen.{positionsOf, Follows, SoundState, StepRefines}
-use Rattle.refinement.specs.PointLaws.{point-follows}
+use Rattle.refinement.specs.CallLaws.{call-follows}
 use Rattle.refinement.specs.AnswerLaws.{isSeven, not-refused-7, never-7}
 
 -- ---- the contract on a sound state
@@ -88,6 +88,9 @@ module _ (size : ℕ) (u v : State) (e : Entry) (s : SoundState size u) (t : Ste
   does : Does (e .call) (windowOf u) (t .left)
   does = meets-does (e .call) u (t .list) (t .left) (t .meets) (s .fit) (s .sound)
 
+  proper : Proper (windowOf u)
+  proper = proper-decode (u .header) (u .memory) (s .sound)
+
   leaves : windowOf v ≡ windowStep (windowOf u) (e .call) .after
   leaves = ap windowOf (sym (t .state)) ∙ does .window
 
@@ -116,14 +119,13 @@ module _ (size : ℕ) (u v : State) (e : Entry) (s : SoundState size u) (t : Ste
         returned = sym (t .returned) ∙ does .returned ∙ f .returned ∙ ap (λ (n : ℕ). step n (positionsOf (windowOf u)) (e .call) .returned) same;
       }
 
-  -- ---- the calls on one sequence, and those that change nothing
+  -- ---- every call
 
-  module _ (point : isPoint (e .call) ≡ true) where
-    pub sound-stays : SoundState size v
-    sound-stays = sound-next (sound-point (u .header) (u .memory) (e .call) point (s .sound)) (point-limits (windowOf u) (e .call) point)
+  pub sound-stays : SoundState size v
+  sound-stays = sound-next (sound-call (u .header) (u .memory) (e .call) (s .sound)) (call-limits (windowOf u) proper (e .call))
 
-    pub point-refines : StepRefines size u e v
-    point-refines = follows-refines (point-follows (windowOf u) (s .sound) (decode-past (u .header) (u .memory)) (e .call) point) sound-stays
+  pub call-refines : StepRefines size u e v
+  call-refines = follows-refines (call-follows (windowOf u) proper (e .call)) sound-stays
 
 -- ---- refusal 7
 

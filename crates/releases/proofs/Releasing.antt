@@ -14,9 +14,9 @@ use Rattle.words.specs.Word.{isSet, clearBit}
 use Rattle.words.specs.TestLaws.{all-set}
 use Rattle.window.specs.declared.AdaptiveReceiverPacketWindow.{AdaptiveReceiverPacketWindow}
 use Rattle.window.specs.Memory.{memory, blockCount}
-use Rattle.model.specs.Window.{Page, Window, decode}
+use Rattle.model.specs.Window.{Page, Window, window, decode}
 use Rattle.model.specs.Pages.{PageDrained, pageDrained, drainPage, holdsValue, unlessEmptied}
-use Rattle.model.specs.Steps.{releasePage, withPage, withHeader, setHeld, setMarks, noteNonempty, dropBlockMarks, allPositions}
+use Rattle.model.specs.Steps.{releasePage, withPage, withHeader, setHeld, setMarks, allPositions}
 use Rattle.pages.specs.declared.PageWords.{PageWords}
 use Rattle.pages.specs.Page.{wordsAt, partOf, page}
 use Rattle.pages.specs.PartLaws.{part-length, part-own}
@@ -25,10 +25,12 @@ use Rattle.page_remove.specs.declared.drain.Drained.{Drained}
 use Rattle.page_remove.specs.Contracts.{Drains, stretch}
 use Rattle.page_remove.specs.DrainLaws.{drain-same}
 use Rattle.masks.specs.declared.Change.{Change}
-use Rattle.masks.specs.Blocks.{blockWordsAt, changed}
+use Rattle.masks.specs.Blocks.{blockWordsAt, blockOf, changed}
 use Rattle.masks.specs.BlockLaws.{block-at}
 use Rattle.updates.specs.Contracts.{Released, Stores, holds, noteReleased, withoutMark, afterRelease}
 use Rattle.updates.specs.StoreLaws.{stored-pages, stored-blocks, pages-past, blocks-past, decode-stored}
+use Rattle.soundness.specs.Change.{Limits, limitsOf, SameLimits}
+use Rattle.soundness.specs.LimitLaws.{limits-either, note-limits, drop-limits}
 use Rattle.releases.specs.Contracts.{settledWords, Inside, ReleasesPage}
 
 -- ---- the model's release of a page
@@ -54,23 +56,16 @@ release-out : (v : Window) (g k : ℕ) → releasePage v g k .out ≡ drainPage 
 unfolding releasePage
 release-out v g k = refl
 
--- ---- the bookkeeping leaves window_size as it was
-
-noted-size : (v : Window) (g : ℕ) → noteNonempty v g .header .«window_size» ≡ v .header .«window_size»
-unfolding noteNonempty
-noted-size v g = refl
-
-dropped-size : (v : Window) → dropBlockMarks v .header .«window_size» ≡ v .header .«window_size»
-dropped-size v = bool (eqb (v .header .«retired_held») 0) (λ e. rw e) (λ e. rw e)
+-- ---- the bookkeeping leaves the limits as they were
 
 -- page g without its mark
 abbrev unmarked : Window → ℕ → Window
 unmarked v g = setMarks v (g / 64) (clearBit (v .blocks (g / 64) .retired) (g % 64))
 
-release-size : (v : Window) (g k : ℕ) → afterRelease v g k .header .«window_size» ≡ v .header .«window_size»
-release-size v g k =
-    let n = noted-size (withHeader v (setHeld (v .header) (v .header .«retired_held» - k))) g in
-    bool (holdsValue (v .pages g)) (λ e. rw e n) (λ e. rw e (dropped-size (unmarked (noteReleased v g k) g) ∙ n))
+release-limits : (v : Window) (g k : ℕ) → SameLimits v (afterRelease v g k)
+release-limits v g k =
+    let n = note-limits (withHeader v (setHeld (v .header) (v .header .«retired_held» - k))) g in
+    limits-either v (noteReleased v g k) (withoutMark (noteReleased v g k) g) (holdsValue (v .pages g)) n (drop-limits (unmarked (noteReleased v g k) g) ∙ n)
 
 -- ---- words
 
@@ -110,6 +105,12 @@ module _ (h : AdaptiveReceiverPacketWindow) (n : ℕ) (ss vs pages blocks l : Li
   abbrev u : Window
   u = withPage v g (page left ps qs)
 
+  -- on any memory
+  limits-kept : limitsOf r ≡ limitsOf h
+  limits-kept =
+      let any = window h (λ (x : ℕ). page left ps qs) (λ (b : ℕ). blockOf (blockWordsAt blocks (g / 64))) in
+      ap (λ (y : Window). limitsOf (y .header)) (stored .changes .gives any refl refl refl) ∙ release-limits any g (d .count)
+
   -- as many values as were counted
   counted : length (stretch at (d .count) l′) ≡ d .count
   counted = length-take-le (d .count) (drop at l′) (omega (arith, taken .few, taken .wrote .long, length-drop at l′))
@@ -129,10 +130,6 @@ module _ (h : AdaptiveReceiverPacketWindow) (n : ℕ) (ss vs pages blocks l : Li
         stored .changes .gives u (header-at h (memory ss vs pages blocks)) (block-at h (memory ss vs pages blocks) (g / 64) block-below)
         (ap holdsValue (page-same v g (page left ps qs)))
 
-    size-kept : r .«window_size» ≡ h .«window_size»
-    size-kept = ap (λ (y : Window). y .header .«window_size») noted ∙ release-size u g (d .count)
-        ∙ ap (λ (y : AdaptiveReceiverPacketWindow). y .«window_size») (header-at h (memory ss vs pages blocks))
-
     page-is : page left ps qs ≡ unlessEmptied (out .page)
     page-is = settled-page (d .words) ps qs ∙ ap (λ (x : PageDrained). unlessEmptied (x .page)) drained-is
 
@@ -143,7 +140,7 @@ module _ (h : AdaptiveReceiverPacketWindow) (n : ℕ) (ss vs pages blocks l : Li
     page-gives =
         sym (λ j. decode r (memory (part-own g ss j) (part-own g vs j) pages′ blocks′))
         ∙ decode-stored Releases pages blocks g left r pages′ blocks′ stored
-        h ss vs ps qs size-kept (i .below) block-below words (i .blocks-long) first second (part-length g ss first) (part-length g vs second)
+        h ss vs ps qs (ap (λ (x : Limits). x .size) limits-kept) (i .below) block-below words (i .blocks-long) first second (part-length g ss first) (part-length g vs second)
         ∙ noted
         ∙ (λ j. afterRelease (withPage v g (page-is j)) g (count-is j))
         ∙ sym (release-is v g limit)
@@ -162,6 +159,7 @@ module _ (h : AdaptiveReceiverPacketWindow) (n : ℕ) (ss vs pages blocks l : Li
         };
         wrote = taken .wrote;
         few = taken .few;
+        limits = limits-kept;
         sound = λ i. taken .sound (i .placed);
         gives = page-gives;
         out = page-out;

@@ -13,6 +13,7 @@ use Rattle.model.specs.Steps.{releasePage, revive}
 use Rattle.pages.specs.declared.PageWords.{PageWords}
 use Rattle.pages.specs.Page.{wordsAt, partOf, page, Placed}
 use Rattle.page_remove.specs.Contracts.{Wrote, stretch}
+use Rattle.soundness.specs.Change.{limitsOf}
 use Rattle.releases.specs.declared.PageReleased.{PageReleased}
 
 -- "An emptied page gets kind 0 and empty words"
@@ -37,6 +38,7 @@ module _ (h : AdaptiveReceiverPacketWindow) (n : ℕ) (ss vs pages blocks l : Li
     pub within : Within pages blocks g pages′ blocks′
     pub wrote : Wrote at (r .count) l l′
     pub few : r .count ≤ limit
+    pub limits : limitsOf (r .window) ≡ limitsOf h
     pub sound : Inside → r .sound ≡ true
     pub gives : Inside → decode (r .window) (memory ss vs pages′ blocks′) ≡ releasePage (decode h (memory ss vs pages blocks)) g limit .after
     pub out : Inside → stretch at (r .count) l′ ≡ releasePage (decode h (memory ss vs pages blocks)) g limit .out

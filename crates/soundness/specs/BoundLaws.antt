@@ -3,21 +3,17 @@ use mathlib.Core.Path.{_≡_}
 use mathlib.Core.Bool.{true, false}
 use Prim.Native.Nat.{ℕ, _+_, _*_, _/_, _≤_, _<_}
 use native.Mathlib.Omega.{arith}
-use Rattle.words.specs.Cases.{bool}
 use Rattle.words.specs.CountLaws.{count-le}
 use Rattle.window.specs.MemoryLaws.{capacity-pages}
 use Rattle.model.specs.Window.{Window, capacityOf, pagesOf, blocksOf, isRetired}
 use Rattle.model.specs.Pages.{holdsValue}
 use Rattle.model.specs.Sound.{liveIn, retiredIn, Sound}
 use Rattle.soundness.specs.SumLaws.{sum-add, sum-le}
-use Rattle.soundness.specs.PageLaws.{some-counted, live-counts, retired-counts, live-part, len-part, held-part}
+use Rattle.soundness.specs.PageLaws.{some-counted, page-total, live-counts, retired-counts, live-part, len-part, held-part}
 
 -- a page has at most 64 values, live and retired together
 pub page-le : (w : Window) (g : ℕ) → liveIn w g + retiredIn w g ≤ 64
-page-le w g =
-    bool (isRetired w g)
-    (λ e. omega (arith, retired-counts w g e .0, retired-counts w g e .1, count-le 64 (w .pages g .occupied)))
-    (λ e. omega (arith, live-counts w g e .0, live-counts w g e .1, count-le 64 (w .pages g .occupied)))
+page-le w g = omega (arith, page-total w g, count-le 64 (w .pages g .occupied))
 
 module _ (w : Window) (ok : Sound w) where
   pub total-le : w .header .len + w .header .«retired_held» ≤ capacityOf w

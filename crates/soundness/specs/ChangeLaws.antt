@@ -4,10 +4,9 @@ use mathlib.Core.Bool.{true, false, not}
 use mathlib.Core.Logic.{⊎-elim}
 use Prim.Native.Nat.{ℕ, _+_, _*_, _/_, _%_, _^_, _≤_, _<_}
 use native.Mathlib.Omega.{arith}
-use native.Mathlib.Decide.{ℕ-discrete, decLt}
+use native.Mathlib.Decide.{ℕ-discrete}
 use lib.Dec.{eqb}
 use Rattle.words.specs.Word.{bitAt}
-use Rattle.words.specs.BitLaws.{bit-none, ext-bits}
 use Rattle.words.specs.ChangeLaws.{with-same, with-other, with-lt}
 use Rattle.model.specs.Table.{sum}
 use Rattle.model.specs.Demand3.{one}
@@ -16,8 +15,8 @@ use Rattle.model.specs.Pages.{valuesIn, holdsValue}
 use Rattle.model.specs.Steps.{headerWith}
 use Rattle.model.specs.Sound.{SoundPage, liveIn, retiredIn, Sound}
 use Rattle.soundness.specs.Change.{Proper, noted, marked, Writes, Changes, Alters}
-use Rattle.soundness.specs.SumLaws.{sum-same, sum-part, sum-but}
-use Rattle.soundness.specs.PageLaws.{one-lt, one-true, bit-not-one, some-counted, marks-in, retired-counts, marked-retired, same-counts, same-dense}
+use Rattle.soundness.specs.SumLaws.{sum-same, sum-but}
+use Rattle.soundness.specs.PageLaws.{one-lt, one-true, bit-not-one, marks-in, same-counts, same-dense, no-marks}
 
 -- ---- what is written
 
@@ -137,23 +136,6 @@ module _ (w v : Window) (g : ℕ) (q : Page) (ok : Sound w) (below : g < pagesOf
   held-is : v .header .«retired_held» ≡ sum (pagesOf w) (retiredIn v)
   held-is = omega (arith, sum-but (pagesOf w) (retiredIn v) (retiredIn w) g below (λ h l d. counts-kept h d .1), ok .held, c .held)
 
-  -- a marked page has a retired value
-  none-marked : v .header .«retired_held» ≡ 0 → (h : ℕ) → marked v h ≡ 1 → ⊥
-  none-marked z h e = elim (decLt h (pagesOf w)) [
-    | yes l ↦
-        let n = some-counted (v .pages h) (pages-sound h l .occupied-fits) (marks-hold h l e) in
-        omega (arith, held-is, sum-part (pagesOf w) (retiredIn v) h l, n, retired-counts v h (marked-retired v h e) .1)
-    | no l ↦ omega (arith, marks-past h (omega arith))
-  ]
-
-  no-marks : v .header .«retired_held» ≡ 0 → (b : ℕ) → v .blocks b .retired ≡ 0
-  no-marks z b =
-      ext-bits 64 (v .blocks b .retired) 0 (retired-lt b) (omega arith)
-      (λ i l.
-      let y : (64 * b + i) / 64 ≡ b = omega arith in
-      let r : (64 * b + i) % 64 ≡ i = omega arith in
-      bit-not-one (v .blocks b .retired) i (λ e. none-marked z (64 * b + i) (rw (y, r) e)) ∙ sym (bit-none i))
-
   -- of v, with the parts of the header that are w's
   changed-sound : Sound (window (headerWith (w .header) (v .header .len) (v .header .«retired_held») (w .header .«release_cursor») (v .header .«nonempty_summary») (v .header .«retired_blocks») (v .header .promotions) (v .header .demotions)) (v .pages) (v .blocks))
   changed-sound = record {
@@ -172,7 +154,7 @@ module _ (w v : Window) (g : ℕ) (q : Page) (ok : Sound w) (below : g < pagesOf
     summary-bits = λ b l. summary-other w v g q wrote b (λ e. omega (arith, own-block)) ∙ ok .summary-bits b l;
     retired-block-bits = λ b l. bit-not-one (v .header .«retired_blocks») b (λ e. omega (arith, c .marking .block-marks b e, ok .retired-block-bits b l));
     no-block-mark = c .marking .no-block-mark;
-    no-page-mark = λ z b l. no-marks z b;
+    no-page-mark = λ z b l. no-marks v (pagesOf w) (λ h k. pages-sound h k .occupied-fits) marks-hold marks-past held-is retired-lt z b;
     nonempty-fits = nonempty-lt;
     retired-fits = retired-lt;
   }

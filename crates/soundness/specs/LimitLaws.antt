@@ -1,18 +1,19 @@
--- No call that reaches one position or none changes window_size, N or demote_at. Assumes nothing.
+-- No call that reaches one position or none changes window_size, N or demote_at, and retiring does not. Assumes nothing.
 use mathlib.Core.Path.{_≡_, refl, sym, _∙_}
-use mathlib.Core.Bool.{Bool, true, false, cond, true≢false}
-use mathlib.Core.List.{[]}
-use Prim.Native.Nat.{ℕ, _-_, _/_, _%_}
-use lib.Dec.{eqb, leb}
+use mathlib.Core.Bool.{Bool, true, false, cond, not, _&&_, _||_, true≢false}
+use mathlib.Core.List.{[], _++_}
+use Prim.Native.Nat.{ℕ, zero, suc, _+_, _-_, _*_, _/_, _%_}
+use lib.Dec.{eqb, leb, ltb}
 use lib.ListN.{length}
 use Rattle.words.specs.Cases.{bool}
 use Rattle.words.specs.Word.{isSet, clearBit}
 use Rattle.model.specs.Calls.{Call, insert, get, exchange, remove, successor-after, first-from, remove-range, clear, clear-bounded, release-retired, iter, stranger, check, refused}
 use Rattle.model.specs.Table.{rangeCount}
-use Rattle.model.specs.Window.{Window, sizeOf, cellOf, isRetired}
+use Rattle.model.specs.Window.{Window, sizeOf, capacityOf, blocksOf, cellOf, isRetired}
 use Rattle.model.specs.Pages.{holdsValue, takeCell, afterRemoval, demotes, unlessEmptied, drainPage, insertPage}
-use Rattle.model.specs.Steps.{withHeader, withPage, setHeld, setRetiredBlocks, setMarks, noteNonempty, addLive, subLive, countPromotion, countDemotion, dropBlockMarks, splitBlock, allPositions, Returned, returnedBy, releasePage, revive, Effect, effect, pageOf, liveHere, finds, isNew, insertStep, exchangeStep, removeStep, windowStep}
+use Rattle.model.specs.Steps.{withHeader, withPage, setHeld, setRetiredBlocks, setMarks, noteNonempty, addLive, subLive, countPromotion, countDemotion, dropBlockMarks, splitBlock, allPositions, Returned, returnedBy, releasePage, revive, removeSlots, retireInBlock, retireBlock, coversBlock, retireBlocks, retirePages, retireStretch, retireRange, retireAll, Effect, effect, pageOf, liveHere, finds, isNew, insertStep, exchangeStep, removeStep, windowStep}
 use Rattle.soundness.specs.Change.{SameLimits, isPoint}
+use Rattle.soundness.specs.Retire.{retireNext, insidePage, firstPage, lastPage}
 
 -- ---- one of two
 
@@ -59,6 +60,73 @@ revive-limits w g =
     limits-returned w (cond (isRetired v g) (releasePage v g 64) (returnedBy v [])) (returnedBy w []) (isRetired w g)
     (limits-returned w (releasePage v g 64) (returnedBy v []) (isRetired v g) (release-page-limits v g 64 ∙ split) split)
     refl
+
+-- ---- retiring
+
+pub slots-limits : (w : Window) (g : ℕ) (P : ℕ → Bool) → SameLimits w (removeSlots w g P .after)
+unfolding removeSlots
+slots-limits w g P =
+    let d = drainPage 64 0 P 64 (w .pages g) in
+    let demoteAt = w .header .«demote_at» in
+    let u = withPage (subLive w (g / 64) (length (d .out))) g (afterRemoval demoteAt (d .page)) in
+    limits-returned w (returnedBy w []) (returnedBy (countDemotion (noteNonempty u g) (demotes demoteAt (d .page))) (d .out)) (isRetired w g || not (holdsValue (w .pages g)))
+    refl (note-limits u g)
+
+module _ (w : Window) (b : ℕ) where
+  pub in-block-limits : (from to : ℕ) → SameLimits w (retireInBlock w from to b)
+  unfolding retireInBlock
+  in-block-limits from to = split-limits w b
+
+  pub block-limits : SameLimits w (retireBlock w b)
+  unfolding retireBlock
+  block-limits = refl
+
+  pub next-limits : (from to : ℕ) (several : Bool) → SameLimits w (retireNext w b from to several)
+  next-limits from to several =
+      limits-either w (cond (several && coversBlock from to b) (retireBlock w b) (retireInBlock w from to b)) w (ltb from (64 * b + 64) && ltb (64 * b) to)
+      (limits-either w (retireBlock w b) (retireInBlock w from to b) (several && coversBlock from to b) block-limits (in-block-limits from to))
+      refl
+
+module _ (from to : ℕ) where
+  pub blocks-limits : (n b : ℕ) (w : Window) (several : Bool) → SameLimits w (retireBlocks n b w from to several)
+  unfolding retireBlocks
+  blocks-limits zero b w several = refl
+  blocks-limits (suc n) b w several = blocks-limits n (suc b) (retireNext w b from to several) several ∙ next-limits w b from to several
+
+  pub pages-limits : (w : Window) → SameLimits w (retirePages w from to)
+  unfolding retirePages
+  pages-limits w =
+      let several = not (eqb (from / 64) ((to - 1) / 64)) in
+      limits-either w (retireBlocks (blocksOf w) 0 w from to several) w (ltb from to) (blocks-limits (blocksOf w) 0 w several) refl
+
+module _ (w : Window) where
+  pub first-limits : (a : ℕ) → SameLimits w (firstPage w a .after)
+  first-limits a = limits-returned w (returnedBy w []) (removeSlots w (a / 64) (λ (j : ℕ). leb (a % 64) j)) (eqb (a % 64) 0) refl (slots-limits w (a / 64) _)
+
+  pub last-limits : (e : ℕ) → SameLimits w (lastPage w e .after)
+  last-limits e = limits-returned w (returnedBy w []) (removeSlots w (e / 64) (λ (j : ℕ). ltb j (e % 64))) (eqb (e % 64) 0) refl (slots-limits w (e / 64) _)
+
+pub stretch-limits : (w : Window) (a e : ℕ) → SameLimits w (retireStretch w a e .after)
+unfolding retireStretch
+stretch-limits w a e =
+    let u = firstPage w a in
+    let v = lastPage (u .after) e in
+    limits-returned w (insidePage w a e) (returnedBy (retirePages (v .after) ((a + 63) / 64) (e / 64)) (u .out ++ v .out)) (eqb (a / 64) ((e - 1) / 64))
+    (slots-limits w (a / 64) _)
+    (pages-limits ((a + 63) / 64) (e / 64) (v .after) ∙ last-limits (u .after) e ∙ first-limits w a)
+
+pub range-limits : (w : Window) (start count : ℕ) → SameLimits w (retireRange w start count .after)
+unfolding retireRange
+range-limits w start count =
+    let u = retireStretch w start (capacityOf w) in
+    let v = retireStretch (u .after) 0 (start + count - capacityOf w) in
+    limits-returned w (retireStretch w start (start + count)) (returnedBy (v .after) (u .out ++ v .out)) (leb (start + count) (capacityOf w))
+    (stretch-limits w start (start + count))
+    (stretch-limits (u .after) 0 (start + count - capacityOf w) ∙ stretch-limits w start (capacityOf w))
+
+pub all-limits : (w : Window) → SameLimits w (retireAll w)
+unfolding retireAll
+all-limits w = bool (eqb (w .header .«retired_held» + w .header .len) 0) (λ e. rw e) (λ e. rw e)
 
 -- ---- the calls
 

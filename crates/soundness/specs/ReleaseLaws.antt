@@ -1,6 +1,6 @@
 -- Values of a retired page released keep a window sound. Assumes nothing.
 use mathlib.Core.Path.{_≡_, refl, sym, ap, _∙_}
-use mathlib.Core.Bool.{Bool, true, false, true≢false, _||_}
+use mathlib.Core.Bool.{true, _||_}
 use mathlib.Core.Logic.{inl, inr}
 use Prim.Native.Nat.{ℕ, zero, suc, _+_, _-_, _/_, _%_, _≤_, _<_}
 use native.Mathlib.Omega.{arith}
@@ -25,13 +25,9 @@ use Rattle.page_remove.specs.RemoveLaws.{unless-sound}
 use Rattle.page_remove.specs.DrainLaws.{drain-zero, drain-none, drain-first, drain-placed, drain-here, drain-count}
 use Rattle.soundness.specs.Change.{Proper, marked, SameStatus, Writes, Marking, Changes}
 use Rattle.soundness.specs.SumLaws.{sum-two}
-use Rattle.soundness.specs.PageLaws.{none-counted, empty-counts, retired-counts, marks-in, held-part}
+use Rattle.soundness.specs.PageLaws.{or-neither, none-counted, empty-counts, retired-counts, marks-in, held-part}
 use Rattle.soundness.specs.ChangeLaws.{noted-other, change-proper}
 use Rattle.soundness.specs.PutLaws.{put-retired}
-
-or-right : (a b : Bool) → (a || b) ≡ false → b ≡ false
-or-right true b e = absurd (true≢false e)
-or-right false b e = e
 
 -- ---- a page drained whole
 
@@ -119,7 +115,7 @@ module _ (w : Window) (g held r : ℕ) (q : Page) (ok : Proper w) (below : g < p
           | yes z ↦
               bool (isRetired w h)
               (λ e. inl (other-empty z h d e))
-              (λ e. inr (bits ∙ rw (none-held z, bit-none (h / 64)) (or-right (isSet (w .header .«retired_blocks») (h / 64)) (eqb (marked w h) 1) e ∙ sym e)))
+              (λ e. inr (bits ∙ rw (none-held z, bit-none (h / 64)) (or-neither (isSet (w .header .«retired_blocks») (h / 64)) (eqb (marked w h) 1) e .1 ∙ sym e)))
           | no z ↦ inr (bits ∙ ap (λ (x : ℕ). isSet x (h / 64) || eqb (marked w h) 1) (some-held z))
         ]
 

@@ -32,54 +32,65 @@ unnoted-empty w ok h d =
       | no l ↦ ap (λ (p : Page). p .occupied) (ok .past h (omega arith))
     ]
 
--- the block of page g, which has a mark
-module _ (w : Window) (g : ℕ) (ok : Proper w) (below : g < pagesOf w) (mark : isSet (w .header .«retired_blocks») (g / 64) ≡ true) where
-  abbrev split : Window
-  split = setMarks (withHeader w (setRetiredBlocks (w .header) (clearBit (w .header .«retired_blocks») (g / 64)))) (g / 64) (w .blocks (g / 64) .nonempty)
+-- the mark of block b turned into marks on its nonempty pages
+module _ (w : Window) (b : ℕ) where
+  abbrev pub split : Window
+  split = setMarks (withHeader w (setRetiredBlocks (w .header) (clearBit (w .header .«retired_blocks») b))) b (w .blocks b .nonempty)
 
-  own : split .blocks (g / 64) ≡ record { nonempty = w .blocks (g / 64) .nonempty; retired = w .blocks (g / 64) .nonempty; live = w .blocks (g / 64) .live }
-  own = rw (eq-eqb (g / 64) (g / 64) refl)
+  pub own-block : split .blocks b ≡ record { nonempty = w .blocks b .nonempty; retired = w .blocks b .nonempty; live = w .blocks b .live }
+  own-block = rw (eq-eqb b b refl)
 
-  other : (b : ℕ) → (b ≡ g / 64 → ⊥) → split .blocks b ≡ w .blocks b
-  other b d = rw (ne-eqb b (g / 64) d)
+  pub other-block : (d : ℕ) → (d ≡ b → ⊥) → split .blocks d ≡ w .blocks d
+  other-block d e = rw (ne-eqb d b e)
 
-  split-status : (h : ℕ) → SameStatus w split h
-  split-status h = elim (ℕ-discrete (h / 64) (g / 64)) [
+  pub split-status : isSet (w .header .«retired_blocks») b ≡ true → ((h : ℕ) → (noted w h ≡ 1 → ⊥) → w .pages h .occupied ≡ 0) → (h : ℕ) → SameStatus w split h
+  split-status mark empty h = elim (ℕ-discrete (h / 64) b) [
     | yes e ↦
         elim (ℕ-discrete (noted w h) 1) [
-          | yes m ↦ inr (marked-retired split h (ap (λ (b : ℕ). bitAt (split .blocks b .retired) (h % 64)) e ∙ ap (λ (x : Block). bitAt (x .retired) (h % 64)) own ∙ ap (λ (b : ℕ). bitAt (w .blocks b .nonempty) (h % 64)) (sym e) ∙ m) ∙ sym (rw (e, mark)))
-          | no m ↦ inl (unnoted-empty w ok h m)
+          | yes m ↦ inr (marked-retired split h (ap (λ (d : ℕ). bitAt (split .blocks d .retired) (h % 64)) e ∙ ap (λ (x : Block). bitAt (x .retired) (h % 64)) own-block ∙ ap (λ (d : ℕ). bitAt (w .blocks d .nonempty) (h % 64)) (sym e) ∙ m) ∙ sym (rw (e, mark)))
+          | no m ↦ inl (empty h m)
         ]
-    | no e ↦ inr (λ i. eqb (with-other (w .header .«retired_blocks») (g / 64) 0 (h / 64) (omega arith) e i) 1 || isSet (other (h / 64) e i .retired) (h % 64))
+    | no e ↦ inr (λ i. eqb (with-other (w .header .«retired_blocks») b 0 (h / 64) (omega arith) e i) 1 || isSet (other-block (h / 64) e i .retired) (h % 64))
   ]
 
-  split-writes : Writes w split g (w .pages g)
+-- the block of page g, which has a mark
+module _ (w : Window) (g : ℕ) (ok : Proper w) (below : g < pagesOf w) (mark : isSet (w .header .«retired_blocks») (g / 64) ≡ true) where
+  abbrev v : Window
+  v = split w (g / 64)
+
+  own : v .blocks (g / 64) ≡ record { nonempty = w .blocks (g / 64) .nonempty; retired = w .blocks (g / 64) .nonempty; live = w .blocks (g / 64) .live }
+  own = own-block w (g / 64)
+
+  same-status : (h : ℕ) → SameStatus w v h
+  same-status = split-status w (g / 64) mark (unnoted-empty w ok)
+
+  split-writes : Writes w v g (w .pages g)
   split-writes = record {
     header = refl;
     own-page = refl;
     other-pages = λ h d. refl;
-    other-blocks = other;
+    other-blocks = other-block w (g / 64);
     nonempty = ap (λ (x : Block). x .nonempty) own ∙ sym (noted-again w g (ok .sound) below);
     summary = rw (eq-eqb (g / 64) (g / 64) refl) (sym (summary-again w g (ok .sound) below));
   }
 
-  split-marking : Marking w split g
+  split-marking : Marking w v g
   split-marking = record {
-    status = λ h d. split-status h;
+    status = λ h d. same-status h;
     marks = λ i l e. ap (λ (x : Block). bitAt (x .nonempty) i) own ∙ ap (λ (x : Block). bitAt (x .retired) i) (sym own) ∙ e;
     marks-fit = rw own (ok .sound .nonempty-fits (g / 64));
     block-marks = clear-fewer (w .header .«retired_blocks») (g / 64);
     no-block-mark = λ z. absurd (true≢false (sym mark ∙ rw (ok .sound .no-block-mark z, bit-none (g / 64))));
   }
 
-  split-changes : Changes w split g (w .pages g)
+  split-changes : Changes w v g (w .pages g)
   split-changes =
-      let same = same-counts w split g refl (split-status g) in
+      let same = same-counts w v g refl (same-status g) in
       record {
         writes = split-writes;
         marking = split-marking;
         page = ok .sound .page g below;
-        dense = same-dense w split g (ok .sound) below refl (split-status g);
+        dense = same-dense w v g (ok .sound) below refl (same-status g);
         live = omega (arith, same .0, ap (λ (x : Block). x .live) own);
         len = omega (arith, same .0);
         held = omega (arith, same .1);
@@ -103,7 +114,7 @@ pub split-same : (w : Window) (g : ℕ) → Proper w → g < pagesOf w → (h : 
 unfolding splitBlock
 split-same w g ok l h =
     bool (isSet (w .header .«retired_blocks») (g / 64))
-    (λ e. rw e (split-status w g ok l e h))
+    (λ e. rw e (same-status w g ok l e h))
     (λ e. rw e (inr refl))
 
 pub split-alters : (w : Window) (g : ℕ) → Proper w → g < pagesOf w → Alters w (splitBlock w (g / 64))

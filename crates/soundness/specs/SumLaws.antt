@@ -1,6 +1,6 @@
 -- Sums over the first n numbers: pointwise equal and bounded summands, one summand changed, sums of sums. Assumes nothing.
 use mathlib.Core.Path.{_≡_, refl, sym, _∙_}
-use Prim.Native.Nat.{ℕ, zero, suc, _+_, _*_, _≤_, _<_}
+use Prim.Native.Nat.{ℕ, zero, suc, _+_, _-_, _*_, _/_, _≤_, _<_}
 use native.Mathlib.Omega.{arith}
 use native.Mathlib.Decide.{ℕ-discrete}
 use borrow.Author.Tests.{eq-eqb, ne-eqb}
@@ -29,6 +29,9 @@ pub sum-le : (m n : ℕ) (f : ℕ → ℕ) → ((q : ℕ) → q < n → f q ≤ 
 unfolding sum
 sum-le m zero f h = omega arith
 sum-le m (suc n) f h = omega (arith, sum-le m n f (λ q l. h q (omega arith)), h n (omega arith))
+
+pub sum-none : (n : ℕ) (f : ℕ → ℕ) → ((q : ℕ) → q < n → f q ≡ 0) → sum n f ≡ 0
+sum-none n f h = omega (arith, sum-le 0 n f (λ q l. omega (arith, h q l)))
 
 -- a summand is at most the sum
 pub sum-part : (n : ℕ) (f : ℕ → ℕ) (q : ℕ) → q < n → f q ≤ sum n f
@@ -68,3 +71,15 @@ pub sum-blocks : (n : ℕ) (f : ℕ → ℕ) → sum (64 * n) f ≡ sum n (λ (b
 sum-blocks zero f = sum-zero f ∙ sym (sum-zero (λ (b : ℕ). sum 64 (λ (i : ℕ). f (64 * b + i))))
 sum-blocks (suc n) f =
     omega (arith, sum-more 64 (64 * n) (64 * suc n) f (omega arith), sum-blocks n f, sum-suc n (λ (b : ℕ). sum 64 (λ (i : ℕ). f (64 * b + i))))
+
+-- summands past n are 0
+pub sum-past : (n m : ℕ) (f : ℕ → ℕ) → n ≤ m → ((q : ℕ) → n ≤ q → f q ≡ 0) → sum m f ≡ sum n f
+sum-past n m f l h = omega (arith, sum-more (m - n) n m f (omega arith), sum-none (m - n) (λ (i : ℕ). f (n + i)) (λ i k. h (n + i) (omega arith)))
+
+-- summands that are the same but in block b
+pub sum-block : (n : ℕ) (f g : ℕ → ℕ) (b : ℕ) → b < n → ((q : ℕ) → (q / 64 ≡ b → ⊥) → f q ≡ g q)
+    → sum (64 * n) f + sum 64 (λ (i : ℕ). g (64 * b + i)) ≡ sum (64 * n) g + sum 64 (λ (i : ℕ). f (64 * b + i))
+sum-block n f g b l h =
+    let t = sum-but n (λ (d : ℕ). sum 64 (λ (i : ℕ). f (64 * d + i))) (λ (d : ℕ). sum 64 (λ (i : ℕ). g (64 * d + i))) b l
+    (λ d k e. sum-same 64 (λ (i : ℕ). f (64 * d + i)) (λ (i : ℕ). g (64 * d + i)) (λ i m. h (64 * d + i) (λ z. e (omega arith)))) in
+    omega (arith, sum-blocks n f, sum-blocks n g, t)

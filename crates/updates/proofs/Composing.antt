@@ -108,15 +108,15 @@ module _ (h : AdaptiveReceiverPacketWindow) (x : BlockWords) (g : ℕ) where
   }
 
   -- ---- a removal
-  pub remove-gives : (holds demoted : Bool) (fewer noted r : Change) → TakesLive h x 1 fewer → Notes (fewer .window) (fewer .block) g holds noted
-      → Counted countDemotion demoted (noted .window) (r .window) → r .block ≡ noted .block → h .demotions < 2 ^ 64 → Removed h x g holds demoted r
-  remove-gives holds demoted fewer noted r t n c same l = record {
+  pub remove-gives : (holds demoted : Bool) (k : ℕ) (fewer noted r : Change) → TakesLive h x k fewer → Notes (fewer .window) (fewer .block) g holds noted
+      → Counted countDemotion demoted (noted .window) (r .window) → r .block ≡ noted .block → h .demotions < 2 ^ 64 → Removed h x g holds demoted k r
+  remove-gives holds demoted k fewer noted r t n c same l = record {
     gives = λ v e f q.
         let u = changed v b fewer in
         let w = changed u b noted in
         let first = t .gives b .gives v e f in
-        let second : w ≡ noteNonempty (subLive v b 1) g = n .gives u refl (upd-same (v .blocks) b (blockOf (fewer .block))) q ∙ ap (λ (y : Window). noteNonempty y g) first in
-        let few : noted .window .demotions ≡ h .demotions = ap (λ (y : Window). y .header .demotions) second ∙ noted-demotions (subLive v b 1) g ∙ ap (λ (y : AdaptiveReceiverPacketWindow). y .demotions) e in
+        let second : w ≡ noteNonempty (subLive v b k) g = n .gives u refl (upd-same (v .blocks) b (blockOf (fewer .block))) q ∙ ap (λ (y : Window). noteNonempty y g) first in
+        let few : noted .window .demotions ≡ h .demotions = ap (λ (y : Window). y .header .demotions) second ∙ noted-demotions (subLive v b k) g ∙ ap (λ (y : AdaptiveReceiverPacketWindow). y .demotions) e in
         ap (λ (y : BlockWords). withBlock (withHeader v (r .window)) b (blockOf y)) same
         ∙ sym (again v b fewer (record { window = r .window; block = noted .block }) (fewer .window))
         ∙ demotion demoted (noted .window) (r .window) c (omega arith) w refl

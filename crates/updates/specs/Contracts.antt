@@ -20,9 +20,9 @@ use Rattle.masks.specs.Blocks.{blockOf, withBlockWords, changed}
 abbrev pub afterInsert : Window → ℕ → Bool → Window
 afterInsert v g promoted = addLive (countPromotion (noteNonempty v g) promoted) (g / 64) 1
 
--- a value out of page g
-abbrev pub afterRemove : Window → ℕ → Bool → Window
-afterRemove v g demoted = countDemotion (noteNonempty (subLive v (g / 64) 1) g) demoted
+-- k values out of page g
+abbrev pub afterRemove : Window → ℕ → Bool → ℕ → Window
+afterRemove v g demoted k = countDemotion (noteNonempty (subLive v (g / 64) k) g) demoted
 
 -- k values out of page g, which is retired; "an emptied page loses its mark"
 abbrev pub noteReleased : Window → ℕ → ℕ → Window
@@ -40,9 +40,9 @@ module _ (h : AdaptiveReceiverPacketWindow) (x : BlockWords) (g : ℕ) where
     pub gives : (v : Window) → v .header ≡ h → v .blocks (g / 64) ≡ blockOf x → holdsValue (v .pages g) ≡ true
         → h .len + 1 < 2 ^ 32 → x .live + 1 < 2 ^ 64 → changed v (g / 64) r ≡ afterInsert v g promoted
 
-  pub record Removed (holds demoted : Bool) (r : Change) : Type 0 where
+  pub record Removed (holds demoted : Bool) (k : ℕ) (r : Change) : Type 0 where
     pub gives : (v : Window) → v .header ≡ h → v .blocks (g / 64) ≡ blockOf x → holdsValue (v .pages g) ≡ holds
-        → changed v (g / 64) r ≡ afterRemove v g demoted
+        → changed v (g / 64) r ≡ afterRemove v g demoted k
 
   pub record Released (holds : Bool) (k : ℕ) (r : Change) : Type 0 where
     pub gives : (v : Window) → v .header ≡ h → v .blocks (g / 64) ≡ blockOf x → holdsValue (v .pages g) ≡ holds

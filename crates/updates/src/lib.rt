@@ -36,18 +36,19 @@ pub fn inserted(
     add_live(window, block, 1)
 }
 
-// Page `page` lost a live value, holds another or not, and became sparse or not.
+// Page `page` lost `count` live values, holds another or not, and became sparse or not.
 pub fn removed(
     w: AdaptiveReceiverPacketWindow,
     b: BlockWords,
     page: usize,
     holds: bool,
     demoted: bool,
+    count: u32,
 ) -> Change
     requires { ⌜ page < 1024 ⌝ }
-    ensures { λ r. ⌜ Removed w b page holds demoted r ⌝ }
+    ensures { λ r. ⌜ Removed w b page holds demoted count r ⌝ }
 {
-    let fewer = sub_live(w, b, 1);
+    let fewer = sub_live(w, b, count);
     let noted = note_page(fewer.window, fewer.block, page, holds);
     let window = noted.window;
     let block = noted.block;

@@ -40,7 +40,7 @@ pub fn store_inserted(
     change.window
 }
 
-// A page that lost a live value.
+// A page that lost `count` live values.
 pub fn store_removed(
     w: AdaptiveReceiverPacketWindow,
     pages: &mut [u64],
@@ -48,12 +48,20 @@ pub fn store_removed(
     page: usize,
     words: PageWords,
     demoted: bool,
+    count: u32,
 ) -> AdaptiveReceiverPacketWindow
     requires { ⌜ (page < 1024) × (3 * page + 3 ≤ length (now pages)) × (3 * (page / 64) + 3 ≤ length (now blocks)) ⌝ }
-    ensures { λ r. ⌜ Stores (Removed w (blockWordsAt (now (blocks .entry)) (page / 64)) page (holdsOf words) demoted) (now (pages .entry)) (now (blocks .entry)) page words r (now (pages .exit)) (now (blocks .exit)) ⌝ }
+    ensures { λ r. ⌜ Stores (Removed w (blockWordsAt (now (blocks .entry)) (page / 64)) page (holdsOf words) demoted count) (now (pages .entry)) (now (blocks .entry)) page words r (now (pages .exit)) (now (blocks .exit)) ⌝ }
 {
     let block = page / 64;
-    let change = removed(w, block_words(blocks, block), page, holds(words), demoted);
+    let change = removed(
+        w,
+        block_words(blocks, block),
+        page,
+        holds(words),
+        demoted,
+        count,
+    );
     let kept = change.block;
     put_page_words(pages, page, words);
     put_block_words(blocks, block, kept);

@@ -31,14 +31,14 @@ count-demotion-requires c κs = search needs
 returns : tie.Need-returns
 returns c =
     let s = c .before .before .before .before .before .before .args in
-    remove-gives (s .w) (s .b) (s .page) _ _ _ _ _ (c .before .before .before .before .before .sub-live .ensures) (c .before .before .before .before .note-page .ensures)
+    remove-gives (s .w) (s .b) (s .page) _ _ _ _ _ _ (c .before .before .before .before .before .sub-live .ensures) (c .before .before .before .before .note-page .ensures)
     (record { when = λ q. c .count-demotion .ensures; unless = λ q. absurd (true≢false (sym (c .before .if1 .taken) ∙ q)) }) refl (room (c .before .before .before .before .before .before))
 
 -- src/lib.rt:37:1
 returns-2 : tie.Need-returns-2
 returns-2 c =
     let s = c .before .before .before .before .before .args in
-    remove-gives (s .w) (s .b) (s .page) _ _ _ _ _ (c .before .before .before .before .sub-live .ensures) (c .before .before .before .note-page .ensures)
+    remove-gives (s .w) (s .b) (s .page) _ _ _ _ _ _ (c .before .before .before .before .sub-live .ensures) (c .before .before .before .note-page .ensures)
     (record { when = λ q. absurd (true≢false (sym q ∙ c .if1 .left)); unless = λ q. refl }) refl (room (c .before .before .before .before .before))
 
 pub removed-spec : {M : Type 1} → statement M

@@ -15,7 +15,7 @@ use Rattle.calls.specs.Answers.{replied, stateOf, leftOf}
 use Rattle.calls.specs.FitLaws as FitLaws
 use Rattle.calls.specs.FitLaws.{PageBounds, sequence-bounds}
 use Rattle.calls.specs.ReplyLaws.{short-meets, quiet-meets, step-meets}
-use Rattle.points.proofs.Parts.{lent, back}
+use Rattle.pages.proofs.Parts.{lent, back}
 use Rattle.points.proofs.Exchanging.{exchange-none, exchange-writes}
 use borrow.Author.Needs.{needs}
 use Rattle.points.proofs.exchange.exchange.Statement.{statement}

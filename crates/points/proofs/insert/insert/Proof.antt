@@ -1,4 +1,4 @@
-use mathlib.Core.Path.{_∙_}
+use mathlib.Core.Path.{refl, _∙_}
 use Prim.Native.Nat.{_/_, _≤_}
 use native.Mathlib.Omega.{arith}
 use denote.Ref.{now}
@@ -7,8 +7,9 @@ use borrow.Author.Tests.{not-true}
 use Rattle.window.specs.declared.answers.Answer.the-variants.{Refused}
 use Rattle.window.specs.declared.refusals.Refusal.the-variants.{Unsound}
 use Rattle.window.specs.RefusalLaws.{Fits}
+use Rattle.model.specs.Calls.{insert}
 use Rattle.calls.specs.FitLaws.{PageBounds, sequence-bounds}
-use Rattle.points.proofs.Inserting.{short-list, long-list, writes-meet}
+use Rattle.calls.specs.ListLaws.{short-list, long-list, writes-meet}
 use Rattle.points.proofs.Entering.{few-made, stepOf, unsound-writes, entered-writes}
 use borrow.Author.Needs.{needs}
 use Rattle.points.proofs.insert.insert.Statement.{statement}
@@ -35,13 +36,13 @@ refuse-requires c κs = search needs
 returns : tie.Need-returns
 returns c =
     let s = c .before .before .before .before .before .before .before .before .args in
-    short-list (s .w) (now (s .sequences)) (now (s .values)) (now (s .pages)) (now (s .blocks)) (now (s .returned)) (s .sequence) (s .value) _ (c .before .before .fits-with-list .ensures) _ (c .before .if1 .taken) (c .refuse .ensures)
+    short-list (s .w) (now (s .sequences)) (now (s .values)) (now (s .pages)) (now (s .blocks)) (now (s .returned)) _ (c .before .before .fits-with-list .ensures) (insert (s .sequence) (s .value)) 0 (λ t. refl) _ (c .before .if1 .taken) (c .refuse .ensures)
 
 -- refusal 6 does not apply
 fit : (c : tie.Else1) → let s = c .before .before .before .before .before .before .before .args in (384 ≤ length (now (s .returned))) × Fits (s .w) (length (now (s .sequences))) (length (now (s .values))) (length (now (s .pages))) (length (now (s .blocks)))
 fit c =
     let s = c .before .before .before .before .before .before .before .args in
-    long-list (s .w) (now (s .sequences)) (now (s .values)) (now (s .pages)) (now (s .blocks)) (now (s .returned)) (s .sequence) (s .value) _ (c .before .fits-with-list .ensures) (c .if1 .left)
+    long-list (s .w) (now (s .sequences)) (now (s .values)) (now (s .pages)) (now (s .blocks)) (now (s .returned)) _ (c .before .fits-with-list .ensures) (c .if1 .left)
 
 -- the page of the sequence
 page : (c : tie.After-position) → PageBounds (c .before .before .before .before .before .before .before .before .before .args .w .«window_size») (c .position .result / 64)
@@ -100,7 +101,7 @@ returns-2 c =
     let p = c .before .before .before .before .before .before .before .before .before .before .before .before .before .before .before .before .before .before .position in
     let k = c .before .before .before .before .before .before .before .before .before .before .before .before .before .before .before .before .reachable in
     let t = c .before .before .before .before .before .before .before .before .before .before .made-live in
-    writes-meet (s .w) (now (s .sequences)) (now (s .values)) (now (s .pages)) (now (s .blocks)) (now (s .returned)) (s .sequence) (s .value) _ (c .before .before .before .before .before .before .before .before .before .before .before .before .before .before .before .before .before .before .before .before .before .fits-with-list .ensures) (stepOf (t .result .window) (Refused Unsound) (t .result .count)) _ _ _ _ _ (c .before .before .before .before .before .before .before .before .before .before .before .before .before .before .before .before .before .before .before .before .if1 .left)
+    writes-meet (s .w) (now (s .sequences)) (now (s .values)) (now (s .pages)) (now (s .blocks)) (now (s .returned)) _ (c .before .before .before .before .before .before .before .before .before .before .before .before .before .before .before .before .before .before .before .before .before .fits-with-list .ensures) (insert (s .sequence) (s .value)) 0 (λ t. refl) (c .before .before .before .before .before .before .before .before .before .before .before .before .before .before .before .before .before .before .before .before .if1 .left) refl refl (stepOf (t .result .window) (Refused Unsound) (t .result .count)) _ _ _ _ _
     (unsound-writes (s .w) (now (s .sequences)) (now (s .values)) (now (s .pages)) (now (s .blocks)) (now (s .returned)) (s .sequence) (s .value) (p .result) (k .result) (p .ensures) (k .ensures) (f .1) (f .0) (t .result) _ _ _ (t .ensures) (not-true _ (c .if2 .taken)))
 
 -- src/insert.rt:186:9
@@ -146,7 +147,7 @@ returns-3 c =
     let p = c .before .before .before .before .before .before .before .before .before .before .before .before .before .before .before .before .before .before .before .before .before .before .before .before .before .before .before .before .before .before .before .before .before .position in
     let k = c .before .before .before .before .before .before .before .before .before .before .before .before .before .before .before .before .before .before .before .before .before .before .before .before .before .before .before .before .before .before .before .reachable in
     let t = c .before .before .before .before .before .before .before .before .before .before .before .before .before .before .before .before .before .before .before .before .before .before .before .before .before .made-live in
-    writes-meet (s .w) (now (s .sequences)) (now (s .values)) (now (s .pages)) (now (s .blocks)) (now (s .returned)) (s .sequence) (s .value) _ (c .before .before .before .before .before .before .before .before .before .before .before .before .before .before .before .before .before .before .before .before .before .before .before .before .before .before .before .before .before .before .before .before .before .before .before .before .fits-with-list .ensures) (stepOf (i .result .window) (c .live-answer .result) (t .result .count)) _ _ _ _ _ (c .before .before .before .before .before .before .before .before .before .before .before .before .before .before .before .before .before .before .before .before .before .before .before .before .before .before .before .before .before .before .before .before .before .before .before .if1 .left)
+    writes-meet (s .w) (now (s .sequences)) (now (s .values)) (now (s .pages)) (now (s .blocks)) (now (s .returned)) _ (c .before .before .before .before .before .before .before .before .before .before .before .before .before .before .before .before .before .before .before .before .before .before .before .before .before .before .before .before .before .before .before .before .before .before .before .before .fits-with-list .ensures) (insert (s .sequence) (s .value)) 0 (λ t. refl) (c .before .before .before .before .before .before .before .before .before .before .before .before .before .before .before .before .before .before .before .before .before .before .before .before .before .before .before .before .before .before .before .before .before .before .before .if1 .left) refl refl (stepOf (i .result .window) (c .live-answer .result) (t .result .count)) _ _ _ _ _
     (entered-writes (s .w) (now (s .sequences)) (now (s .values)) (now (s .pages)) (now (s .blocks)) (now (s .returned)) (s .sequence) (s .value) (p .result) (k .result) (p .ensures) (k .ensures) (f .1) (f .0) (t .result) _ _ _ (t .ensures) (i .result) _ _ _ _ _ (i .ensures) (c .live-answer .ensures))
 
 pub insert-spec : {M : Type 1} → statement M

@@ -6,7 +6,7 @@ use lib.ListN.{length}
 use Rattle.pages.specs.PartLaws.{part-length}
 use Rattle.page_insert.specs.Contracts.{Inserts}
 use Rattle.points.specs.Contracts.{InsertsLive}
-use Rattle.points.proofs.Parts.{lent, lent-both, back-both}
+use Rattle.pages.proofs.Parts.{lent, lent-both, back-both}
 use Rattle.points.proofs.Putting.{inserts-live}
 use borrow.Author.Needs.{needs}
 use Rattle.points.proofs.insert.insert_live.Statement.{statement}

@@ -17,7 +17,7 @@ use Rattle.calls.specs.Answers.{replied, stateOf, leftOf}
 use Rattle.calls.specs.FitLaws as FitLaws
 use Rattle.calls.specs.FitLaws.{PageBounds, sequence-bounds}
 use Rattle.calls.specs.ReplyLaws.{short-meets, quiet-meets, step-meets}
-use Rattle.points.proofs.Parts.{lent, back, lent-both, back-both}
+use Rattle.pages.proofs.Parts.{lent, back, lent-both, back-both}
 use Rattle.points.proofs.Removing.{remove-none, absent-writes, found-writes}
 use borrow.Author.Needs.{needs}
 use Rattle.points.proofs.remove.remove.Statement.{statement}

@@ -51,8 +51,8 @@ returns c =
       pages-are = c .before .before .before .before .before .before .before .put-page-words .ensures;
       blocks-are = c .before .before .before .put-block-words .ensures;
       changes =
-          subst (λ (x : BlockWords). Removed (s .w) x (s .page) (holds (s .words)) (s .demoted) r) (c .before .before .before .before .before .before .before .before .before .before .before .before .block-words .ensures)
-          (subst (λ (b : Bool). Removed (s .w) (c .before .before .before .before .before .before .before .before .before .before .before .before .block-words .result) (s .page) b (s .demoted) r) (c .before .before .before .before .before .before .before .before .before .before .before .holds .ensures) (c .before .before .before .before .before .before .before .before .before .before .removed .ensures));
+          subst (λ (x : BlockWords). Removed (s .w) x (s .page) (holds (s .words)) (s .demoted) (s .count) r) (c .before .before .before .before .before .before .before .before .before .before .before .before .block-words .ensures)
+          (subst (λ (b : Bool). Removed (s .w) (c .before .before .before .before .before .before .before .before .before .before .before .before .block-words .result) (s .page) b (s .demoted) (s .count) r) (c .before .before .before .before .before .before .before .before .before .before .before .holds .ensures) (c .before .before .before .before .before .before .before .before .before .before .removed .ensures));
     }
 
 pub store-removed-spec : {M : Type 1} → statement M

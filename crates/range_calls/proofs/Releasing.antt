@@ -1,0 +1,49 @@
+-- release_retired, over plain variables. Assumes nothing.
+use mathlib.Core.Path.{_≡_, refl, sym, ap, _∙_}
+use mathlib.Core.List.{List}
+use Prim.Native.Nat.{ℕ, _≤_}
+use native.Mathlib.Omega.{arith}
+use lib.Dec.{leb}
+use lib.ListN.{length}
+use borrow.Author.Tests.{le-leb}
+use Rattle.window.specs.declared.AdaptiveReceiverPacketWindow.{AdaptiveReceiverPacketWindow}
+use Rattle.window.specs.declared.answers.Answer.the-variants.{Released}
+use Rattle.window.specs.Memory.{memory}
+use Rattle.model.specs.Calls.{release-retired, released}
+use Rattle.model.specs.Window.{Window, decode}
+use Rattle.model.specs.Steps.{Release, effect, windowStep, releaseStep}
+use Rattle.model.specs.Sound.{Sound}
+use Rattle.page_remove.specs.Contracts.{stretch}
+use Rattle.page_remove.specs.WroteLaws.{stretch-length}
+use Rattle.calls.specs.Answers.{stateOf, leftOf}
+use Rattle.calls.specs.Contracts.{Fills}
+use Rattle.visits.specs.declared.Visited.{Visited}
+use Rattle.visits.specs.Contracts.{Releases}
+use Rattle.range_calls.specs.Finish.{finished}
+use Rattle.range_calls.proofs.Finishing.{words-past, words-lengths, finished-fills}
+
+-- the call, with a list long enough and a budget taken
+pub release-taken : (w : Window) (budget long : ℕ) → 384 ≤ long → budget ≤ 256 → releaseStep w budget ≡ windowStep w (release-retired budget (leb 384 long))
+unfolding windowStep
+release-taken w budget long l few = rw (le-leb 384 long l, le-leb budget 256 few)
+
+module _ (h : AdaptiveReceiverPacketWindow) (ss vs pages blocks l : List ℕ) (budget : ℕ) (r : Visited) (pages′ blocks′ l′ : List ℕ)
+    (long : 384 ≤ length l) (taken : budget ≤ 256) (t : Releases h ss vs pages blocks l 0 budget r pages′ blocks′ l′) where
+  few : r .count ≤ 384
+  few = omega (arith, t .few, t .paid)
+
+  gives : Sound (decode h (memory ss vs pages blocks))
+      → effect (decode (r .window) (memory ss vs pages′ blocks′)) (released (r .count) (r .units)) (stretch 0 (r .count) l′)
+      ≡ releaseStep (decode h (memory ss vs pages blocks)) budget
+  unfolding releaseStep
+  gives ok =
+      ap (λ (n : ℕ). effect (decode (r .window) (memory ss vs pages′ blocks′)) (released n (r .units)) (stretch 0 (r .count) l′))
+      (sym (stretch-length 0 (r .count) l′ (omega (arith, few, long, t .wrote .long))))
+      ∙ ap (λ (x : Release). effect (x .after) (released (length (x .out)) (x .units)) (x .out)) (t .gives ok)
+
+  pub release-fills : Fills (λ (w : Window). releaseStep w budget) (stateOf h ss vs pages blocks) l
+      (leftOf (finished (r .window) (Released (r .count) (r .units)) (r .count) (r .sound)) ss vs pages′ blocks′ l′)
+  release-fills =
+      finished-fills (λ (w : Window). releaseStep w budget) (stateOf h ss vs pages blocks) l (r .window) (Released (r .count) (r .units)) (r .count) (r .sound) ss vs pages′ blocks′ l′
+      refl (t .wrote) few (words-past (h .«window_size») ss vs pages blocks pages′ blocks′ (t .within)) (words-lengths (h .«window_size») ss vs pages blocks pages′ blocks′ (t .within))
+      (t .sound) gives

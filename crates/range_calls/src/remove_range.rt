@@ -1,0 +1,150 @@
+// remove_range: the live values at the positions from first's to last's retired, and a release visit with its whole budget.
+use crate::finish;
+use calls::refuse;
+use masks::marks::settle_retired;
+use ranges::Retired;
+use ranges::range::retire_range;
+use window::AdaptiveReceiverPacketWindow;
+use window::answers::Answer;
+use window::answers::Step;
+use window::memory::position;
+use window::refusals::Refusal;
+use window::refusals::fits_with_list;
+ghost use mathlib.Core.Path.{_≡_};
+ghost use Prim.Native.Nat.{_≤_, _<_};
+ghost use lib.Dec.{leb};
+ghost use lib.ListN.{length};
+ghost use Rattle.window.specs.Memory.{memory, capacity};
+ghost use Rattle.window.specs.RefusalLaws.{Fits};
+ghost use Rattle.model.specs.Calls.{remove-range};
+ghost use Rattle.model.specs.Table.{rangeCount};
+ghost use Rattle.model.specs.Steps.{rangeStep};
+ghost use Rattle.model.specs.Contract.{Meets};
+ghost use Rattle.masks.specs.Contracts.{ChangesHeader};
+ghost use Rattle.calls.specs.Answers.{stateOf, leftOf};
+ghost use Rattle.calls.specs.Contracts.{Fills};
+ghost use Rattle.ranges.specs.Contracts.{Performs};
+ghost use Rattle.range_calls.specs.Range.{readied, retireReady};
+
+// How many positions a range has: the distance from first to last, of 31 bits, and one.
+fn range_count(first: u32, last: u32) -> u32
+    ensures { λ r. ⌜ r ≡ rangeCount first last ⌝ }
+{
+    let distance = std::num::wrapping_sub_u32(last, first);
+    distance % 0x8000_0000 + 1
+}
+
+// The header made ready for a release: with nothing retired before, `held`, the cursor goes to the page of `start`; with nothing
+// retired now, the block marks drop.
+fn ready(w: AdaptiveReceiverPacketWindow, held: u32, start: usize) -> AdaptiveReceiverPacketWindow
+    requires { ⌜ start < 65536 ⌝ }
+    ensures { λ r. ⌜ ChangesHeader (readied held start) w r ⌝ }
+{
+    if held != 0 {
+        return settle_retired(w);
+    }
+    let mut window = w;
+    window.release_cursor = (start / 64) as u32;
+    settle_retired(window)
+}
+
+// The live values at `count` positions in a row from `start`, retired, and the header made ready for a release.
+fn retire(
+    w: AdaptiveReceiverPacketWindow,
+    sequences: &mut [u32],
+    values: &mut [u32],
+    pages: &mut [u64],
+    blocks: &mut [u64],
+    returned: &mut [u32],
+    start: usize,
+    count: usize,
+) -> Retired
+    requires { ⌜ Fits w (length (now sequences)) (length (now values)) (length (now pages)) (length (now blocks)) ⌝ }
+    requires { ⌜ (start < capacity (w .«window_size»)) × (0 < count) × (count ≤ capacity (w .«window_size»)) × (128 ≤ length (now returned)) ⌝ }
+    ensures { λ r. ⌜ Performs (λ v. retireReady v start count) 128 w (memory (now (sequences .entry)) (now (values .entry)) (now (pages .entry)) (now (blocks .entry))) 0 (now (returned .entry)) r (memory (now (sequences .exit)) (now (values .exit)) (now (pages .exit)) (now (blocks .exit))) (now (returned .exit)) ⌝ }
+{
+    let retired = retire_range(w, sequences, values, pages, blocks, returned, start, count);
+    let left = retired.window;
+    let window = ready(left, w.retired_held, start);
+    Retired {
+        window,
+        count: retired.count,
+        sound: retired.sound,
+    }
+}
+
+// The live values at `count` positions in a row from `start`: retired, and a release visit with its whole budget. The answer is how
+// many they were.
+fn remove_positions(
+    w: AdaptiveReceiverPacketWindow,
+    sequences: &mut [u32],
+    values: &mut [u32],
+    pages: &mut [u64],
+    blocks: &mut [u64],
+    returned: &mut [u32],
+    start: usize,
+    count: usize,
+) -> Step
+    requires { ⌜ Fits w (length (now sequences)) (length (now values)) (length (now pages)) (length (now blocks)) ⌝ }
+    requires { ⌜ (start < capacity (w .«window_size»)) × (0 < count) × (count ≤ capacity (w .«window_size»)) × (384 ≤ length (now returned)) ⌝ }
+    ensures { λ r. ⌜ Fills (λ v. rangeStep v start count) (stateOf w (now (sequences .entry)) (now (values .entry)) (now (pages .entry)) (now (blocks .entry))) (now (returned .entry))
+        (leftOf r (now (sequences .exit)) (now (values .exit)) (now (pages .exit)) (now (blocks .exit)) (now (returned .exit))) ⌝ }
+{
+    let retired = retire(w, sequences, values, pages, blocks, returned, start, count);
+    let left = retired.window;
+    let at = retired.count;
+    let removed = std::num::wrapping_sub_u32(w.len, left.len);
+    let visited = visits::release_retired(
+        left,
+        sequences,
+        values,
+        pages,
+        blocks,
+        returned,
+        at,
+        AdaptiveReceiverPacketWindow::MAX_RETIRED_RELEASED_PER_VISIT,
+    );
+    let window = visited.window;
+    let sound = retired.sound & visited.sound;
+    finish(window, Answer::Found(removed), at + visited.count, sound)
+}
+
+pub fn remove_range(
+    w: AdaptiveReceiverPacketWindow,
+    sequences: &mut [u32],
+    values: &mut [u32],
+    pages: &mut [u64],
+    blocks: &mut [u64],
+    returned: &mut [u32],
+    first: u32,
+    last: u32,
+) -> Step
+    ensures { λ r. ⌜ Meets (remove-range first last (leb 384 (length (now (returned .entry))))) (stateOf w (now (sequences .entry)) (now (values .entry)) (now (pages .entry)) (now (blocks .entry))) (now (returned .entry))
+        (leftOf r (now (sequences .exit)) (now (values .exit)) (now (pages .exit)) (now (blocks .exit)) (now (returned .exit))) ⌝ }
+{
+    if !fits_with_list(
+        w,
+        sequences.len(),
+        values.len(),
+        pages.len(),
+        blocks.len(),
+        returned.len(),
+    ) {
+        return refuse(w, Refusal::ShortMemory);
+    }
+    let count = range_count(first, last);
+    if w.window_size < count {
+        return refuse(w, Refusal::RangeCount);
+    }
+    let start = position(w.window_size, first);
+    remove_positions(
+        w,
+        sequences,
+        values,
+        pages,
+        blocks,
+        returned,
+        start,
+        count as usize,
+    )
+}

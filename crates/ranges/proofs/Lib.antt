@@ -1,0 +1,4 @@
+-- Laws over plain variables that the proofs cite.
+pub mod Taking
+pub mod Spanning
+pub mod Ranging

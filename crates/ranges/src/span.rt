@@ -1,0 +1,193 @@
+// A stretch of positions retired: the partial pages at either end value by value, whole pages and blocks by mark.
+use crate::Retired;
+use crate::slots::remove_slots;
+use retires::run::retire_pages;
+use window::AdaptiveReceiverPacketWindow;
+ghost use Prim.Native.Nat.{_+_, _*_, _/_, _≤_, _<_};
+ghost use lib.ListN.{length};
+ghost use Rattle.window.specs.Memory.{memory, capacity};
+ghost use Rattle.window.specs.RefusalLaws.{Fits};
+ghost use Rattle.model.specs.Steps.{retireStretch};
+ghost use Rattle.soundness.specs.Retire.{firstPage, lastPage};
+ghost use Rattle.ranges.specs.Spans.{partial, spanMost, endPages};
+ghost use Rattle.ranges.specs.Contracts.{Performs};
+
+// The first partial page of a stretch that begins at `start`.
+fn retire_head(
+    w: AdaptiveReceiverPacketWindow,
+    sequences: &mut [u32],
+    values: &mut [u32],
+    pages: &mut [u64],
+    blocks: &mut [u64],
+    returned: &mut [u32],
+    at: usize,
+    start: usize,
+) -> Retired
+    requires { ⌜ Fits w (length (now sequences)) (length (now values)) (length (now pages)) (length (now blocks)) ⌝ }
+    requires { ⌜ (start < capacity (w .«window_size»)) × (at + partial start ≤ length (now returned)) ⌝ }
+    ensures { λ r. ⌜ Performs (λ v. firstPage v start) (partial start) w (memory (now (sequences .entry)) (now (values .entry)) (now (pages .entry)) (now (blocks .entry))) at (now (returned .entry)) r (memory (now (sequences .exit)) (now (values .exit)) (now (pages .exit)) (now (blocks .exit))) (now (returned .exit)) ⌝ }
+{
+    if start % 64 == 0 {
+        return Retired {
+            window: w,
+            count: 0,
+            sound: true,
+        };
+    }
+    let slots = words::span(start % 64, 64);
+    remove_slots(
+        w,
+        sequences,
+        values,
+        pages,
+        blocks,
+        returned,
+        at,
+        start / 64,
+        slots,
+    )
+}
+
+// The last partial page of a stretch that ends before `end`.
+fn retire_tail(
+    w: AdaptiveReceiverPacketWindow,
+    sequences: &mut [u32],
+    values: &mut [u32],
+    pages: &mut [u64],
+    blocks: &mut [u64],
+    returned: &mut [u32],
+    at: usize,
+    end: usize,
+) -> Retired
+    requires { ⌜ Fits w (length (now sequences)) (length (now values)) (length (now pages)) (length (now blocks)) ⌝ }
+    requires { ⌜ (end ≤ capacity (w .«window_size»)) × (at + partial end ≤ length (now returned)) ⌝ }
+    ensures { λ r. ⌜ Performs (λ v. lastPage v end) (partial end) w (memory (now (sequences .entry)) (now (values .entry)) (now (pages .entry)) (now (blocks .entry))) at (now (returned .entry)) r (memory (now (sequences .exit)) (now (values .exit)) (now (pages .exit)) (now (blocks .exit))) (now (returned .exit)) ⌝ }
+{
+    if end % 64 == 0 {
+        return Retired {
+            window: w,
+            count: 0,
+            sound: true,
+        };
+    }
+    let slots = words::span(0, end % 64);
+    remove_slots(
+        w,
+        sequences,
+        values,
+        pages,
+        blocks,
+        returned,
+        at,
+        end / 64,
+        slots,
+    )
+}
+
+// Both.
+fn retire_ends(
+    w: AdaptiveReceiverPacketWindow,
+    sequences: &mut [u32],
+    values: &mut [u32],
+    pages: &mut [u64],
+    blocks: &mut [u64],
+    returned: &mut [u32],
+    at: usize,
+    start: usize,
+    end: usize,
+) -> Retired
+    requires { ⌜ Fits w (length (now sequences)) (length (now values)) (length (now pages)) (length (now blocks)) ⌝ }
+    requires { ⌜ (start < capacity (w .«window_size»)) × (end ≤ capacity (w .«window_size»)) × (at + (partial start + partial end) ≤ length (now returned)) ⌝ }
+    ensures { λ r. ⌜ Performs (λ v. endPages v start end) (partial start + partial end) w (memory (now (sequences .entry)) (now (values .entry)) (now (pages .entry)) (now (blocks .entry))) at (now (returned .entry)) r (memory (now (sequences .exit)) (now (values .exit)) (now (pages .exit)) (now (blocks .exit))) (now (returned .exit)) ⌝ }
+{
+    let head = retire_head(w, sequences, values, pages, blocks, returned, at, start);
+    let begun = head.window;
+    let next = at + head.count;
+    let tail = retire_tail(begun, sequences, values, pages, blocks, returned, next, end);
+    let window = tail.window;
+    Retired {
+        window,
+        count: head.count + tail.count,
+        sound: head.sound & tail.sound,
+    }
+}
+
+// A stretch that reaches over several pages.
+fn retire_across(
+    w: AdaptiveReceiverPacketWindow,
+    sequences: &mut [u32],
+    values: &mut [u32],
+    pages: &mut [u64],
+    blocks: &mut [u64],
+    returned: &mut [u32],
+    at: usize,
+    start: usize,
+    end: usize,
+) -> Retired
+    requires { ⌜ Fits w (length (now sequences)) (length (now values)) (length (now pages)) (length (now blocks)) ⌝ }
+    requires { ⌜ (64 * (start / 64) + 64 < end) × (end ≤ capacity (w .«window_size»)) × (at + (partial start + partial end) ≤ length (now returned)) ⌝ }
+    ensures { λ r. ⌜ Performs (λ v. retireStretch v start end) (partial start + partial end) w (memory (now (sequences .entry)) (now (values .entry)) (now (pages .entry)) (now (blocks .entry))) at (now (returned .entry)) r (memory (now (sequences .exit)) (now (values .exit)) (now (pages .exit)) (now (blocks .exit))) (now (returned .exit)) ⌝ }
+{
+    let ends = retire_ends(
+        w,
+        sequences,
+        values,
+        pages,
+        blocks,
+        returned,
+        at,
+        start,
+        end,
+    );
+    let left = ends.window;
+    let window = retire_pages(left, pages, blocks, (start + 63) / 64, end / 64);
+    Retired {
+        window,
+        count: ends.count,
+        sound: ends.sound,
+    }
+}
+
+// The live values at the positions from `start` up to `end`.
+pub fn retire_span(
+    w: AdaptiveReceiverPacketWindow,
+    sequences: &mut [u32],
+    values: &mut [u32],
+    pages: &mut [u64],
+    blocks: &mut [u64],
+    returned: &mut [u32],
+    at: usize,
+    start: usize,
+    end: usize,
+) -> Retired
+    requires { ⌜ Fits w (length (now sequences)) (length (now values)) (length (now pages)) (length (now blocks)) ⌝ }
+    requires { ⌜ (start < end) × (end ≤ capacity (w .«window_size»)) × (at + spanMost start end ≤ length (now returned)) ⌝ }
+    ensures { λ r. ⌜ Performs (λ v. retireStretch v start end) (spanMost start end) w (memory (now (sequences .entry)) (now (values .entry)) (now (pages .entry)) (now (blocks .entry))) at (now (returned .entry)) r (memory (now (sequences .exit)) (now (values .exit)) (now (pages .exit)) (now (blocks .exit))) (now (returned .exit)) ⌝ }
+{
+    let page = start / 64;
+    if page == (end - 1) / 64 {
+        let slots = words::span(start % 64, (end - 1) % 64 + 1);
+        return remove_slots(
+            w,
+            sequences,
+            values,
+            pages,
+            blocks,
+            returned,
+            at,
+            page,
+            slots,
+        );
+    }
+    retire_across(
+        w,
+        sequences,
+        values,
+        pages,
+        blocks,
+        returned,
+        at,
+        start,
+        end,
+    )
+}

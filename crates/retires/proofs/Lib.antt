@@ -1,0 +1,6 @@
+-- Laws over plain variables that the proofs cite.
+pub mod Counting
+pub mod InBlock
+pub mod Blocks
+pub mod All
+pub mod Runs

@@ -1,0 +1,88 @@
+-- Every call keeps a window sound, and its limits. Assumes nothing.
+use mathlib.Core.Path.{_≡_, refl, _∙_}
+use mathlib.Core.Bool.{true, false}
+use Prim.Native.Nat.{ℕ}
+use native.Mathlib.Omega.{arith}
+use lib.Dec.{leb}
+use Rattle.words.specs.Cases.{bool}
+use Rattle.window.specs.declared.AdaptiveReceiverPacketWindow.{AdaptiveReceiverPacketWindow}
+use Rattle.window.specs.Memory.{Memory, position}
+use Rattle.window.specs.MemoryLaws.{position-lt}
+use Rattle.model.specs.Calls.{Call, insert, get, exchange, remove, successor-after, first-from, remove-range, clear, clear-bounded, release-retired, iter, stranger, check}
+use Rattle.model.specs.Table.{rangeCount}
+use Rattle.model.specs.Window.{Window, decode, sizeOf, pagesOf}
+use Rattle.model.specs.Steps.{retireAll, rangeStep, clearStep, clearBoundedStep, releaseStep, windowStep}
+use Rattle.model.specs.Sound.{Sound}
+use Rattle.model.proofs.Keeping.{count-some}
+use Rattle.soundness.specs.Change.{Proper, SameLimits, isPoint}
+use Rattle.soundness.specs.LimitLaws.{all-limits, point-limits}
+use Rattle.soundness.specs.PointLaws.{proper-decode, proper-point}
+use Rattle.soundness.specs.VisitLaws.{pages-same, proper-release, release-limits, pages-released}
+use Rattle.soundness.specs.RetireRangeLaws.{proper-all, all-len}
+use Rattle.soundness.specs.RetireReleaseLaws.{retiring-release, retiring-release-limits, ranged, ranged-limits, retiring-ranged, count-few}
+
+-- what a call leaves of w
+record Keeps (w v : Window) : Type 0 where
+  proper : Proper v
+  limits : SameLimits w v
+
+module _ (w : Window) (ok : Proper w) where
+  keeps-same : Keeps w w
+  keeps-same = record { proper = ok; limits = refl }
+
+  range-keeps : (a b : ℕ) → leb (rangeCount a b) (sizeOf w) ≡ true → Keeps w (rangeStep w (position (sizeOf w) a) (rangeCount a b) .after)
+  unfolding rangeStep
+  range-keeps a b e =
+      let start = position (sizeOf w) a in
+      let v = ranged w start (rangeCount a b) in
+      let r = retiring-ranged w start (rangeCount a b) ok (position-lt (sizeOf w) a) (count-some a b) (count-few w ok a b e) in
+      record { proper = retiring-release v r 256; limits = retiring-release-limits v r 256 ∙ ranged-limits w start (rangeCount a b) }
+
+  clear-keeps : Keeps w (clearStep w .after)
+  unfolding clearStep
+  clear-keeps =
+      let v = retireAll w in
+      record { proper = proper-release 256 v (proper-all w ok); limits = release-limits 256 v (proper-all w ok) ∙ all-limits w }
+
+  clear-bounded-keeps : (n : ℕ) → Keeps w (clearBoundedStep w n .after)
+  unfolding clearBoundedStep
+  clear-bounded-keeps n =
+      let t = pages-released (pagesOf w) 0 n (retireAll w) (proper-all w ok) (all-len w) (omega (arith, pages-same w (retireAll w) (all-limits w))) in
+      record { proper = t .proper; limits = t .limits ∙ all-limits w }
+
+  release-keeps : (b : ℕ) → Keeps w (releaseStep w b .after)
+  unfolding releaseStep
+  release-keeps b = record { proper = proper-release b w ok; limits = release-limits b w ok }
+
+  point-keeps : (c : Call) → isPoint c ≡ true → Keeps w (windowStep w c .after)
+  point-keeps c p = record { proper = proper-point w c p ok; limits = point-limits w c p }
+
+  call-keeps : (c : Call) → Keeps w (windowStep w c .after)
+  unfolding windowStep
+  call-keeps (insert s v listed) = point-keeps (insert s v listed) refl
+  call-keeps (get s) = point-keeps (get s) refl
+  call-keeps (exchange s v) = point-keeps (exchange s v) refl
+  call-keeps (remove s) = point-keeps (remove s) refl
+  call-keeps (successor-after s) = point-keeps (successor-after s) refl
+  call-keeps (first-from s) = point-keeps (first-from s) refl
+  call-keeps (remove-range a b true) = bool (leb (rangeCount a b) (sizeOf w)) (λ e. rw e (range-keeps a b e)) (λ e. rw e keeps-same)
+  call-keeps (remove-range a b false) = keeps-same
+  call-keeps (clear true) = clear-keeps
+  call-keeps (clear false) = keeps-same
+  call-keeps (clear-bounded n true) = bool (leb n 256) (λ e. rw e (clear-bounded-keeps n)) (λ e. rw e keeps-same)
+  call-keeps (clear-bounded n false) = keeps-same
+  call-keeps (release-retired b true) = bool (leb b 256) (λ e. rw e (release-keeps b)) (λ e. rw e keeps-same)
+  call-keeps (release-retired b false) = keeps-same
+  call-keeps (iter cell) = point-keeps (iter cell) refl
+  call-keeps (stranger a b) = point-keeps (stranger a b) refl
+  call-keeps check = point-keeps check refl
+
+  pub proper-call : (c : Call) → Proper (windowStep w c .after)
+  proper-call c = call-keeps c .proper
+
+  pub call-limits : (c : Call) → SameLimits w (windowStep w c .after)
+  call-limits c = call-keeps c .limits
+
+-- of a state: what a call leaves of a sound one is sound
+pub sound-call : (h : AdaptiveReceiverPacketWindow) (m : Memory) (c : Call) → Sound (decode h m) → Sound (windowStep (decode h m) c .after)
+sound-call h m c ok = proper-call (decode h m) (proper-decode h m ok) c .sound
