@@ -23,6 +23,12 @@ use subjects::{Called, Inlined, Library, Window};
 const ROUNDS: usize = 25;
 const CALLS: u32 = 100_000;
 const SIZES: [u32; 4] = [64, 512, 4096, 65536];
+/// Most work units of a visit.
+const VISIT: u32 = 256;
+/// Work units of a visit between packets.
+const SHORT_VISIT: u32 = 64;
+/// Where filled windows begin: inside a page, so that a range begins and ends inside pages.
+const START: u32 = 17;
 
 /// One call of a prepared list.
 #[derive(Clone, Copy)]
@@ -31,16 +37,54 @@ enum Call {
     Remove(u32),
 }
 
+/// One call of a show.
+#[derive(Clone, Copy)]
+enum Shown {
+    Point(Call),
+    RemoveRange(u32, u32),
+    Visit,
+}
+
 /// What a row fills the window with and then does, again and again.
 enum Work {
     /// Packets inserted in order, each removed when it is this many behind.
     InOrder { lag: u32 },
     /// A prepared list of inserts and removes; sequences go on from turn to turn by `span`.
     Arrivals { calls: Vec<Call>, span: u32 },
+    /// The same with ranges and visits.
+    Show { calls: Vec<Shown>, span: u32 },
     Get(Vec<u32>),
     SuccessorAfter(Vec<u32>),
     /// The window listed so many times.
     Iter { times: u32 },
+    /// Windows that were filled: ranges of so many positions removed, one after the other.
+    Ranges { length: u32 },
+    /// Windows that were filled and cleared: so many visits of a release.
+    Releases { visits: u32 },
+    /// Windows that were filled with so many values: cleared.
+    Clear { held: u32 },
+    /// Visits of a release in a window that has nothing retired.
+    NoneRetired,
+}
+
+impl Work {
+    /// How many values a window is filled with before each pass, outside the time; none for the work that goes on by itself.
+    fn filled(&self, size: u32) -> Option<u32> {
+        match self {
+            Work::Ranges { .. } | Work::Releases { .. } => Some(size),
+            Work::Clear { held } => Some(*held),
+            _ => None,
+        }
+    }
+
+    /// How many calls are made in a filled window.
+    fn calls_in_filled(&self, size: u32) -> u32 {
+        match self {
+            Work::Ranges { length } => size / length,
+            Work::Releases { visits } => *visits,
+            _ => 1,
+        }
+    }
 }
 
 struct Row {
@@ -86,6 +130,44 @@ fn arrivals(size: u32, percent: u32) -> Work {
     Work::Arrivals { calls, span: span + size }
 }
 
+/// Packets in order, of which one in twenty is lost and comes a quarter of the window later; each is removed half a window
+/// after its place. For one packet in a thousand those next in order are given up: a range of 16 to 200 positions, at most
+/// a quarter of the window, and every fourth time of 1,000 if that is at most a quarter of the window. What comes late for
+/// its range is not inserted. Every sixteenth packet is followed by a visit. The list starts and ends with an empty window.
+fn show(size: u32) -> Work {
+    let mut random = Random(0x9e37_79b9_7f4a_7c15);
+    let span = CALLS / 2 / size * size + size;
+    let mut again = vec![Vec::new(); (span + size) as usize];
+    let mut calls = Vec::new();
+    let (mut next, mut ranges) = (0, 0);
+    for at in 0..span + size / 2 {
+        if at < span {
+            if random.below(100) < 5 {
+                again[(at + size / 4) as usize].push(at);
+            } else {
+                calls.push(Shown::Point(Call::Insert(at)));
+            }
+            if random.below(1000) == 0 && next + size / 2 <= at {
+                ranges += 1;
+                let long = ranges % 4 == 0 && size / 4 >= 1000;
+                let length = if long { 1000 } else { (16 + random.below(185)).min(size / 4) };
+                calls.push(Shown::RemoveRange(next, next + length - 1));
+                next += length;
+            }
+        }
+        let late = again[at as usize].iter().filter(|&&sequence| sequence >= next);
+        calls.extend(late.map(|&sequence| Shown::Point(Call::Insert(sequence))));
+        if next + size / 2 <= at {
+            calls.push(Shown::Point(Call::Remove(next)));
+            next += 1;
+        }
+        if at % 16 == 0 {
+            calls.push(Shown::Visit);
+        }
+    }
+    Work::Show { calls, span: span + size }
+}
+
 /// Sequences in a random order: those below the size that are `at` in a group of `each`.
 fn asked(size: u32, each: u32, at: u32) -> Vec<u32> {
     let mut random = Random(0x2545_f491_4f6c_dd1d);
@@ -109,16 +191,61 @@ fn rows() -> Vec<Row> {
         row("successor_after, sparse", every(100), Work::SuccessorAfter(asked(size, 1, 0)));
         row("iter, full", every(1), Work::Iter { times: (CALLS / size).max(1) });
         row("iter, nearly empty", vec![0, size / 3, size - 1], Work::Iter { times: CALLS / 64 });
+        for (name, length) in [
+            ("remove_range, 1", 1),
+            ("remove_range, 64", 64),
+            ("remove_range, 1000", 1000),
+            ("remove_range, 65536", 65536),
+        ] {
+            if length <= size {
+                row(name, vec![], Work::Ranges { length });
+            }
+        }
+        row("release_retired, none retired", vec![], Work::NoneRetired);
+        if size > 256 {
+            row("release_retired, much retired", vec![], Work::Releases { visits: size / 256 - 1 });
+        }
+        row("clear", vec![], Work::Clear { held: size.min(300) });
+        row("show", vec![], show(size));
     }
     rows
 }
 
-/// The row's calls once: how many there were, and the sum of what they answered. `from` is where sequences start.
-#[inline(always)]
-fn work<W: Window>(w: &mut W, work: &Work, from: &mut u32) -> (u32, u64) {
+/// The windows emptied and filled anew, for visits cleared too: the sum of the answers, by which the windows are compared.
+#[inline(never)]
+fn prepare<W: Window>(windows: &mut [W], row: &Row) -> u64 {
     let mut sum = 0u64;
     let mut add = |answer: u64| sum = sum.wrapping_mul(31).wrapping_add(answer);
-    let calls = match work {
+    let Some(filled) = row.work.filled(row.size) else {
+        return 0;
+    };
+    for w in windows {
+        add(w.clear());
+        loop {
+            let released = w.release_retired(VISIT);
+            add(released);
+            if released == 0 {
+                break;
+            }
+        }
+        for sequence in START..START + filled {
+            add(w.insert(sequence, !sequence));
+        }
+        if matches!(row.work, Work::Releases { .. }) {
+            add(w.clear());
+        }
+    }
+    sum
+}
+
+/// The row's calls once: how many there were, and the sum of what they answered. `from` is where sequences start. Work on
+/// windows that were filled is done on each, other work on the first.
+#[inline(always)]
+fn work<W: Window>(windows: &mut [W], row: &Row, from: &mut u32) -> (u32, u64) {
+    let mut sum = 0u64;
+    let w = &mut windows[0];
+    let mut add = |answer: u64| sum = sum.wrapping_mul(31).wrapping_add(answer);
+    let calls = match &row.work {
         Work::InOrder { lag } => {
             let end = *from + CALLS / 2;
             for sequence in *from..end {
@@ -133,6 +260,18 @@ fn work<W: Window>(w: &mut W, work: &Work, from: &mut u32) -> (u32, u64) {
                 add(match *call {
                     Call::Insert(at) => w.insert(*from + at, at),
                     Call::Remove(at) => w.remove(*from + at),
+                });
+            }
+            *from += span;
+            calls.len() as u32
+        }
+        Work::Show { calls, span } => {
+            for call in calls {
+                add(match *call {
+                    Shown::Point(Call::Insert(at)) => w.insert(*from + at, at),
+                    Shown::Point(Call::Remove(at)) => w.remove(*from + at),
+                    Shown::RemoveRange(first, last) => w.remove_range(*from + first, *from + last),
+                    Shown::Visit => w.release_retired(SHORT_VISIT),
                 });
             }
             *from += span;
@@ -156,6 +295,29 @@ fn work<W: Window>(w: &mut W, work: &Work, from: &mut u32) -> (u32, u64) {
                 steps += 1;
             }
             steps
+        }
+        Work::Ranges { length } => {
+            for w in windows.iter_mut() {
+                for range in 0..row.size / length {
+                    let first = START + range * length;
+                    add(w.remove_range(first, first + length - 1));
+                }
+            }
+            row.size / length * windows.len() as u32
+        }
+        Work::Releases { visits } => {
+            for w in windows.iter_mut() {
+                (0..*visits).for_each(|_| add(w.release_retired(VISIT)));
+            }
+            visits * windows.len() as u32
+        }
+        Work::Clear { .. } => {
+            windows.iter_mut().for_each(|w| add(w.clear()));
+            windows.len() as u32
+        }
+        Work::NoneRetired => {
+            (0..CALLS).for_each(|_| add(w.release_retired(VISIT)));
+            CALLS
         }
     };
     (calls, sum)
@@ -181,9 +343,18 @@ fn processor_time() -> i64 {
     time.seconds * 1_000_000_000 + time.nanoseconds
 }
 
-/// A window of one kind with its times.
+/// What the clock itself takes: the median of times in which nothing is done.
+fn clock_time() -> i64 {
+    let mut times: Vec<i64> = (0..1001).map(|_| -processor_time() + processor_time()).collect();
+    times.sort();
+    times[times.len() / 2]
+}
+
+/// Windows of one kind with their times: one, or as many as are filled for a pass.
 struct Timed<W> {
-    window: W,
+    windows: Vec<W>,
+    passes: u32,
+    clock: i64,
     from: u32,
     nanoseconds: Vec<f64>,
 }
@@ -191,20 +362,37 @@ struct Timed<W> {
 impl<W: Window> Timed<W> {
     /// Filled, and the row's calls made once, so that all memory was touched.
     fn new(row: &Row) -> Self {
-        let mut window = W::new(row.size);
+        let (windows, passes) = match row.work.filled(row.size) {
+            None => (1, 1),
+            Some(filled) => {
+                let calls = row.work.calls_in_filled(row.size);
+                let least = if calls == 1 { 2 } else { 1 };
+                let windows = (1024 / calls).min(64).min(65536 / row.size).max(least);
+                (windows, 4 * 65536 / (windows * filled))
+            }
+        };
+        let mut windows: Vec<W> = (0..windows).map(|_| W::new(row.size)).collect();
         for &sequence in &row.held {
-            window.insert(sequence, !sequence);
+            windows[0].insert(sequence, !sequence);
         }
-        let mut from = row.size;
-        work(&mut window, &row.work, &mut from);
-        Self { window, from, nanoseconds: Vec::new() }
+        let mut timed = Self { windows, passes, clock: clock_time(), from: row.size, nanoseconds: Vec::new() };
+        timed.round(row);
+        timed.nanoseconds.clear();
+        timed
     }
 
     #[inline(never)]
     fn round(&mut self, row: &Row) -> u64 {
-        let start = processor_time();
-        let (calls, sum) = work(&mut self.window, &row.work, &mut self.from);
-        self.nanoseconds.push((processor_time() - start) as f64 / f64::from(calls));
+        let (mut calls, mut sum, mut time) = (0, 0u64, 0);
+        for _ in 0..self.passes {
+            let prepared = prepare(&mut self.windows, row);
+            let start = processor_time();
+            let (made, answers) = work(&mut self.windows, row, &mut self.from);
+            time += processor_time() - start - self.clock;
+            calls += made;
+            sum = sum.wrapping_mul(31).wrapping_add(prepared).wrapping_mul(31).wrapping_add(answers);
+        }
+        self.nanoseconds.push(time as f64 / f64::from(calls));
         sum
     }
 

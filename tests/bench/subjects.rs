@@ -14,13 +14,20 @@ pub trait Window {
     fn get(&self, sequence: u32) -> u64;
     fn successor_after(&self, sequence: u32) -> u64;
     fn each(&self, pair: impl FnMut(u32, u32));
+    fn remove_range(&mut self, first: u32, last: u32) -> u64;
+    fn release_retired(&mut self, budget: u32) -> u64;
+    fn clear(&mut self) -> u64;
 }
+
+/// The library's code of what release_retired answers.
+const RELEASED: u32 = 6;
 
 const REFUSED: u64 = 1 << 32;
 const NEW: u64 = 2 << 32;
 const REPLACED: u64 = 3 << 32;
 const ABSENT: u64 = 4 << 32;
 const FOUND: u64 = 5 << 32;
+const CLEARED: u64 = 6 << 32;
 
 /// Codes of the library that the source can answer, as numbers.
 fn number(answer: NumberedAnswer) -> u64 {
@@ -48,7 +55,7 @@ pub struct Library {
     returned: Vec<u32>,
 }
 
-/// The call `name` on the window `w`: the header, the lists (for insert the return list too), the numbers.
+/// The call `name` on the window `w`: the header, the lists (the return list too where values are dropped), the numbers.
 macro_rules! call {
     ($w:ident, $name:ident, [$($list:ident),*], $($number:expr),*) => {
         unsafe { $name($w.header, $($w.$list.as_ptr().cast_mut(), $w.$list.len(),)* $($number),*) }
@@ -115,6 +122,27 @@ impl Window for Library {
             cell = third;
         }
     }
+
+    fn remove_range(&mut self, first: u32, last: u32) -> u64 {
+        let w = self;
+        let step = call!(w, packet_window_remove_range, [sequences, values, pages, blocks, returned], first, last);
+        w.header = step.window;
+        number(step.answer)
+    }
+
+    fn release_retired(&mut self, budget: u32) -> u64 {
+        let w = self;
+        let step = call!(w, packet_window_release_retired, [sequences, values, pages, blocks, returned], budget);
+        w.header = step.window;
+        if step.answer.code == RELEASED { u64::from(step.answer.first) } else { REFUSED }
+    }
+
+    fn clear(&mut self) -> u64 {
+        let w = self;
+        let step = call!(w, packet_window_clear, [sequences, values, pages, blocks, returned],);
+        w.header = step.window;
+        if step.answer.code == DONE { CLEARED } else { REFUSED }
+    }
 }
 
 /// The source, inlined as rustc likes.
@@ -149,6 +177,19 @@ impl Window for Inlined {
         for (sequence, value) in self.0.iter() {
             pair(sequence, *value);
         }
+    }
+
+    fn remove_range(&mut self, first: u32, last: u32) -> u64 {
+        self.0.remove_range(first, last).map_or(REFUSED, |removed| FOUND | removed as u64)
+    }
+
+    fn release_retired(&mut self, budget: u32) -> u64 {
+        self.0.release_retired(budget as usize) as u64
+    }
+
+    fn clear(&mut self) -> u64 {
+        self.0.clear();
+        CLEARED
     }
 }
 
@@ -190,5 +231,20 @@ impl Window for Called {
         while let Some((sequence, value)) = stepped(&mut pairs) {
             pair(sequence, *value);
         }
+    }
+
+    #[inline(never)]
+    fn remove_range(&mut self, first: u32, last: u32) -> u64 {
+        self.0.remove_range(first, last)
+    }
+
+    #[inline(never)]
+    fn release_retired(&mut self, budget: u32) -> u64 {
+        self.0.release_retired(budget)
+    }
+
+    #[inline(never)]
+    fn clear(&mut self) -> u64 {
+        self.0.clear()
     }
 }

@@ -2,8 +2,8 @@
 //!
 //! `compare FIRST LAST CALLS [--large|--small]`: one list of calls for each seed. Each call is made on the source and, where
 //! the library has it, on the library: the answer, the returned values in order, the header, all block words, and words and
-//! cells in use of the call's page are compared after it, those of all pages after each call on windows up to 512 and now and
-//! then on larger ones. After a call that the library lacks its window is copied from the source.
+//! cells in use of the pages that the call may have changed are compared after it, those of all pages after each call on windows
+//! up to 512 and now and then on larger ones. After a call that the library lacks its window is copied from the source.
 
 /// The source's work counters stay out.
 macro_rules! count_work {
@@ -44,11 +44,12 @@ struct Both {
 }
 
 impl Both {
-    /// Every page, or the page of the call's sequence.
+    /// Every page that the call may have changed; every page if `all` is asked for.
     fn pages(&self, call: Call, all: bool) -> Vec<usize> {
         let count = self.source.page_count();
         match call {
             _ if all => (0..count).collect(),
+            Call::RemoveRange { .. } | Call::ReleaseRetired(_) | Call::Clear | Call::ClearBounded(_) => (0..count).collect(),
             Call::Insert { sequence, .. } | Call::Exchange { sequence, .. } | Call::Remove(sequence) => {
                 vec![sequence as usize / 64 % count]
             }

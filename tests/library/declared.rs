@@ -53,4 +53,8 @@ declared! {
     packet_window_exchange(w, [s sl: u32, v vl: u32, p pl: u64, b bl: u64], sequence, value);
     packet_window_remove(w, [s sl: u32, v vl: u32, p pl: u64, b bl: u64], sequence);
     packet_window_insert(w, [s sl: u32, v vl: u32, p pl: u64, b bl: u64, r rl: u32], sequence, value);
+    packet_window_remove_range(w, [s sl: u32, v vl: u32, p pl: u64, b bl: u64, r rl: u32], first, last);
+    packet_window_release_retired(w, [s sl: u32, v vl: u32, p pl: u64, b bl: u64, r rl: u32], budget);
+    packet_window_clear(w, [s sl: u32, v vl: u32, p pl: u64, b bl: u64, r rl: u32]);
+    packet_window_clear_bounded(w, [s sl: u32, v vl: u32, p pl: u64, b bl: u64, r rl: u32], number);
 }

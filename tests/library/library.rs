@@ -44,7 +44,11 @@ fn wanted(answer: &Answer) -> NumberedAnswer {
         Answer::Absent => numbered(3, 0),
         Answer::Number(number) => numbered(4, number),
         Answer::Refused(refusal) => numbered(REFUSED, refusal),
-        Answer::Released { .. } | Answer::Pairs(_) => unreachable!("no step of the library"),
+        Answer::Released { released, units } => NumberedAnswer {
+            second: units,
+            ..numbered(6, released)
+        },
+        Answer::Pairs(_) => unreachable!("no step of the library"),
     }
 }
 
@@ -157,6 +161,10 @@ impl Library {
                 Call::FirstFrom(sequence) => packet_window_first_from(w, s, sl, v, vl, p, pl, b, bl, sequence),
                 Call::Exchange { sequence, value } => packet_window_exchange(w, s, sl, v, vl, p, pl, b, bl, sequence, value),
                 Call::Iter => packet_window_iter(w, s, sl, v, vl, p, pl, b, bl, cell),
+                Call::RemoveRange { first, last } => packet_window_remove_range(w, s, sl, v, vl, p, pl, b, bl, r, rl, first, last),
+                Call::ReleaseRetired(budget) => packet_window_release_retired(w, s, sl, v, vl, p, pl, b, bl, r, rl, budget),
+                Call::Clear => packet_window_clear(w, s, sl, v, vl, p, pl, b, bl, r, rl),
+                Call::ClearBounded(number) => packet_window_clear_bounded(w, s, sl, v, vl, p, pl, b, bl, r, rl, number),
                 _ => return None,
             }
         })
@@ -165,7 +173,10 @@ impl Library {
     /// With one list one short: refusal 6, and nothing is written.
     pub fn short(&mut self, random: &mut Random, call: Call) -> Result<(), String> {
         let mut lengths = self.lengths;
-        let with_list = matches!(call, Call::Insert { .. });
+        let with_list = matches!(
+            call,
+            Call::Insert { .. } | Call::RemoveRange { .. } | Call::ReleaseRetired(_) | Call::Clear | Call::ClearBounded(_)
+        );
         match random.below(if with_list { 5 } else { 4 }) {
             list @ 0..=1 => lengths.cells[list as usize] -= 1,
             list @ 2..=3 => lengths.words[list as usize - 2] -= 1,

@@ -1,5 +1,7 @@
 // The calls in C's calling convention: header and answers by value, a list as a pointer and its length. `rt staticlib exports` makes
-// the library.
+// the library. ranges.rt has the calls that remove a range, clear and release.
+pub mod ranges;
+
 use points::exchange::exchange;
 use points::insert::insert;
 use points::remove::remove;

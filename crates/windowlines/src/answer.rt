@@ -5,6 +5,10 @@ use lines::put_unknown;
 use points::exchange::exchange;
 use points::insert::insert;
 use points::remove::remove;
+use range_calls::clear::clear;
+use range_calls::clear_bounded::clear_bounded;
+use range_calls::release_retired::release_retired;
+use range_calls::remove_range::remove_range;
 use reads::first_from;
 use reads::get;
 use reads::iter;
@@ -25,6 +29,53 @@ pub struct Answered {
 pub enum Called {
     Stepped(Step),
     Unknown,
+}
+
+// d, b, v and c: the calls that remove a range, clear and release.
+fn range_call(
+    w: AdaptiveReceiverPacketWindow,
+    sequences: &mut [u32; 4096],
+    values: &mut [u32; 4096],
+    pages: &mut [u64; 192],
+    blocks: &mut [u64; 3],
+    returned: &mut [u32; 384],
+    f: Fields,
+) -> Called {
+    let first = f.first;
+    let second = f.second;
+    let letter = f.letter;
+    match letter {
+        b'd' => Called::Stepped(remove_range(
+            w,
+            sequences,
+            values,
+            pages,
+            blocks,
+            returned,
+            first,
+            second,
+        )),
+        b'b' => Called::Stepped(clear_bounded(
+            w,
+            sequences,
+            values,
+            pages,
+            blocks,
+            returned,
+            first,
+        )),
+        b'v' => Called::Stepped(release_retired(
+            w,
+            sequences,
+            values,
+            pages,
+            blocks,
+            returned,
+            first,
+        )),
+        b'c' => Called::Stepped(clear(w, sequences, values, pages, blocks, returned)),
+        _ => Called::Unknown,
+    }
 }
 
 // The call of a letter other than n and l.
@@ -56,7 +107,7 @@ fn call(
         b's' => Called::Stepped(successor_after(w, sequences, values, pages, blocks, first)),
         b'f' => Called::Stepped(first_from(w, sequences, values, pages, blocks, first)),
         b'e' => Called::Stepped(exchange(w, sequences, values, pages, blocks, first, second)),
-        _ => Called::Unknown,
+        _ => range_call(w, sequences, values, pages, blocks, returned, f),
     }
 }
 

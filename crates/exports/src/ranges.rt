@@ -1,0 +1,78 @@
+// The calls that remove a range, clear and release, as lib.rt has the others.
+use crate::NumberedStep;
+use crate::in_numbers;
+use range_calls::clear::clear;
+use range_calls::clear_bounded::clear_bounded;
+use range_calls::release_retired::release_retired;
+use range_calls::remove_range::remove_range;
+use window::AdaptiveReceiverPacketWindow;
+ghost use lib.Dec.{leb};
+ghost use lib.ListN.{length};
+ghost use Rattle.model.specs.Calls.{remove-range, clear as clearOf, clear-bounded, release-retired};
+ghost use Rattle.model.specs.Contract.{Meets};
+ghost use Rattle.calls.specs.Answers.{stateOf};
+ghost use Rattle.exports.specs.Numbers.{numbersLeft};
+
+#[no_mangle]
+pub extern "C" fn packet_window_remove_range(
+    w: AdaptiveReceiverPacketWindow,
+    sequences: &mut [u32],
+    values: &mut [u32],
+    pages: &mut [u64],
+    blocks: &mut [u64],
+    returned: &mut [u32],
+    first: u32,
+    last: u32,
+) -> NumberedStep
+    ensures { λ r. ⌜ Meets (remove-range first last (leb 384 (length (now (returned .entry))))) (stateOf w (now (sequences .entry)) (now (values .entry)) (now (pages .entry)) (now (blocks .entry))) (now (returned .entry))
+        (numbersLeft r (now (sequences .exit)) (now (values .exit)) (now (pages .exit)) (now (blocks .exit)) (now (returned .exit))) ⌝ }
+{
+    in_numbers(remove_range(w, sequences, values, pages, blocks, returned, first, last))
+}
+
+#[no_mangle]
+pub extern "C" fn packet_window_release_retired(
+    w: AdaptiveReceiverPacketWindow,
+    sequences: &[u32],
+    values: &[u32],
+    pages: &mut [u64],
+    blocks: &mut [u64],
+    returned: &mut [u32],
+    budget: u32,
+) -> NumberedStep
+    ensures { λ r. ⌜ Meets (release-retired budget (leb 384 (length (now (returned .entry))))) (stateOf w (now (sequences .entry)) (now (values .entry)) (now (pages .entry)) (now (blocks .entry))) (now (returned .entry))
+        (numbersLeft r (now (sequences .entry)) (now (values .entry)) (now (pages .exit)) (now (blocks .exit)) (now (returned .exit))) ⌝ }
+{
+    in_numbers(release_retired(w, sequences, values, pages, blocks, returned, budget))
+}
+
+#[no_mangle]
+pub extern "C" fn packet_window_clear(
+    w: AdaptiveReceiverPacketWindow,
+    sequences: &[u32],
+    values: &[u32],
+    pages: &mut [u64],
+    blocks: &mut [u64],
+    returned: &mut [u32],
+) -> NumberedStep
+    ensures { λ r. ⌜ Meets (clearOf (leb 384 (length (now (returned .entry))))) (stateOf w (now (sequences .entry)) (now (values .entry)) (now (pages .entry)) (now (blocks .entry))) (now (returned .entry))
+        (numbersLeft r (now (sequences .entry)) (now (values .entry)) (now (pages .exit)) (now (blocks .exit)) (now (returned .exit))) ⌝ }
+{
+    in_numbers(clear(w, sequences, values, pages, blocks, returned))
+}
+
+#[no_mangle]
+pub extern "C" fn packet_window_clear_bounded(
+    w: AdaptiveReceiverPacketWindow,
+    sequences: &[u32],
+    values: &[u32],
+    pages: &mut [u64],
+    blocks: &mut [u64],
+    returned: &mut [u32],
+    number: u32,
+) -> NumberedStep
+    ensures { λ r. ⌜ Meets (clear-bounded number (leb 384 (length (now (returned .entry))))) (stateOf w (now (sequences .entry)) (now (values .entry)) (now (pages .entry)) (now (blocks .entry))) (now (returned .entry))
+        (numbersLeft r (now (sequences .entry)) (now (values .entry)) (now (pages .exit)) (now (blocks .exit)) (now (returned .exit))) ⌝ }
+{
+    in_numbers(clear_bounded(w, sequences, values, pages, blocks, returned, number))
+}
