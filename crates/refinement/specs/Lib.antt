@@ -2,7 +2,8 @@
 -- (MarkLaws), on a page released or revived (ReleaseLaws), on the calls that retire nothing (PointLaws), on how many are retired
 -- (CountLaws) and a release over several pages (VisitLaws), on positions emptied value by value (SlotLaws), pages newly retired
 -- (MoveLaws, RetireLaws) and ranges (RangeLaws), on everything retired (ClearLaws, ClearBoundedLaws), on every call (CallLaws), on
--- refusal 7 (AnswerLaws), and on states (StateLaws).
+-- refusal 7 (AnswerLaws), and on states (StateLaws). Then what a window shows: weights of pairs (WeightLaws), of cells and positions
+-- (CellLaws), and of what iter gives (IterLaws).
 pub mod Seen
 pub mod SeenLaws
 pub mod MarkLaws
@@ -19,3 +20,6 @@ pub mod ClearBoundedLaws
 pub mod CallLaws
 pub mod AnswerLaws
 pub mod StateLaws
+pub mod WeightLaws
+pub mod CellLaws
+pub mod IterLaws
