@@ -23,3 +23,4 @@ pub mod StateLaws
 pub mod WeightLaws
 pub mod CellLaws
 pub mod IterLaws
+pub mod ShowLaws
