@@ -1,12 +1,12 @@
 -- What `new` leaves: it reads as the fresh window, whatever the cells held; a fresh window is sound and holds nothing. Assumes nothing.
 use mathlib.Core.Path.{_≡_, refl, sym, ap, _∙_, subst}
-use mathlib.Core.Bool.{false, _&&_, true≢false}
+use mathlib.Core.Bool.{true, false, _&&_, true≢false}
 use mathlib.Core.Option.{none}
 use mathlib.Core.List.{List, []}
-use Prim.Native.Nat.{ℕ, zero, suc, _+_, _-_, _*_, _/_, _%_, _<_}
+use Prim.Native.Nat.{ℕ, zero, suc, _+_, _-_, _*_, _/_, _%_, _≤_, _<_}
 use native.Mathlib.Omega.{arith}
 use lib.Dec.{ltb, eqb}
-use lib.ListN.{getD, drop, replicate, length-replicate, getD-replicate, List·getD-append}
+use lib.ListN.{length, getD, drop, replicate, length-append, length-drop, length-replicate, getD-replicate, List·getD-append}
 use borrow.Author.Tests.{ltb-true}
 use Rattle.words.specs.Cases.{bool}
 use Rattle.words.specs.First.{firstFrom}
@@ -17,14 +17,14 @@ use Rattle.words.specs.CountLaws.{count-none}
 use Rattle.window.specs.declared.AdaptiveReceiverPacketWindow.{AdaptiveReceiverPacketWindow}
 use Rattle.window.specs.Memory.{Memory, capacity, pageCount, blockCount, zeroed}
 use Rattle.window.specs.MemoryLaws.{page-count-ge}
-use Rattle.window.specs.Refusals.{limits}
-use Rattle.window.specs.RefusalLaws.{Within, limits-within}
+use Rattle.window.specs.Refusals.{limits, longEnough}
+use Rattle.window.specs.RefusalLaws.{Within, LongEnough, limits-within, long-enough-is, is-fit}
 use Rattle.window.specs.New.{fresh, cleared, made, refused, newResult, NewResult, unlessRefused, shortMemory, newOf}
 use Rattle.model.specs.Calls.{done}
 use Rattle.model.specs.Window.{Window, noBlock, cellsAt, decode, freshWindow, standsAt, cellOf, isRetired, liveAt, retiredAt, inUse, isReached, iterStep, pairsFrom, livePairs, unreached, retiredValues, capacityOf}
 use Rattle.model.specs.Pages.{valuesIn}
 use Rattle.model.specs.Sound.{Used, SoundPage, liveIn, retiredIn, Sound}
-use Rattle.model.specs.Contract.{State, windowOf}
+use Rattle.model.specs.Contract.{State, windowOf, lengthsFit}
 use Rattle.model.specs.Heads.{Began}
 use Rattle.model.proofs.Sums.{sum-zero}
 
@@ -33,6 +33,9 @@ use Rattle.model.proofs.Sums.{sum-zero}
 pub zeroed-at : (n : ℕ) (xs : List ℕ) (i : ℕ) → i < n → getD (zeroed n xs) i 0 ≡ 0
 zeroed-at n xs i h =
     List·getD-append (replicate n 0) (drop n xs) 0 i (rw (length-replicate {A = ℕ} n 0) h) ∙ getD-replicate {A = ℕ} n i 0 0 h
+
+zeroed-length : (n : ℕ) (xs : List ℕ) → n ≤ length xs → length (zeroed n xs) ≡ length xs
+zeroed-length n xs l = omega (arith, length-append (replicate n 0) (drop n xs), length-replicate {A = ℕ} n 0, length-drop n xs)
 
 -- ---- what new leaves reads as the fresh window
 module _ (size n d : ℕ) (m : Memory) where
@@ -187,7 +190,7 @@ module _ (size n d : ℕ) (m : Memory) where
 
 -- ---- a head begins so
 
--- an accepted new was inside the limits and had long enough lists, and left what its definition says
+-- a new that made a header was not refused
 not-refused : (k : ℕ) (m : Memory) (r : NewResult) (h : AdaptiveReceiverPacketWindow) (m′ : Memory)
     → newResult (made h) m′ ≡ unlessRefused k m r → (k ≡ 0) × (newResult (made h) m′ ≡ r)
 not-refused zero m r h m′ e = (refl, e)
@@ -196,18 +199,56 @@ not-refused (suc k) m r h m′ e =
     let z : _≡_ {A = ℕ} 0 1 = cc in
     absurd (omega arith)
 
-pub began-fresh : (size : ℕ) (u : State) (b : Began size u) → Within size (b .n) (b .demote-at) × (windowOf u ≡ freshWindow size (b .n) (b .demote-at) (b .lent))
+long-lent : (size : ℕ) (m : Memory) → shortMemory size m ≡ 0
+    → LongEnough size (length (m .sequences)) (length (m .values)) (length (m .pages)) (length (m .blocks))
+unfolding shortMemory
+long-lent size m e =
+    bool (longEnough size (length (m .sequences)) (length (m .values)) (length (m .pages)) (length (m .blocks)))
+    (λ t. long-enough-is size _ _ _ _ t)
+    (λ t. absurd (let z : _≡_ {A = ℕ} 6 0 = rw t at e in omega arith))
+
+-- an accepted new was inside the limits and had long enough lists, and left what its definition says
+pub record Accepted (size : ℕ) (u : State) (b : Began size u) : Type 0 where
+  pub within : Within size (b .n) (b .demote-at)
+  pub long : LongEnough size (length (b .lent .sequences)) (length (b .lent .values)) (length (b .lent .pages)) (length (b .lent .blocks))
+  pub header : u .header ≡ fresh size (b .n) (b .demote-at)
+  pub memory : u .memory ≡ cleared size (b .lent)
+
+pub began-accepted : (size : ℕ) (u : State) (b : Began size u) → Accepted size u b
 unfolding newOf
-began-fresh size u b =
+began-accepted size u b =
     let first = not-refused (limits size (b .n) (b .demote-at)) (b .lent) _ (u .header) (u .memory) (b .accepted) in
     let second = not-refused (shortMemory size (b .lent)) (b .lent) _ (u .header) (u .memory) (first .1) in
     let same : newResult (made (u .header)) (u .memory) ≡ newResult (made (fresh size (b .n) (b .demote-at))) (cleared size (b .lent)) = second .1 in
     let answer : made (u .header) ≡ made (fresh size (b .n) (b .demote-at)) = ap (λ (r : NewResult). r .answer) same in
-    let header : u .header ≡ fresh size (b .n) (b .demote-at) = cc answer in
-    let memory : u .memory ≡ cleared size (b .lent) = ap (λ (r : NewResult). r .after) same in (
-      limits-within size (b .n) (b .demote-at) (first .0),
-      rw (header, memory) (new-window size (b .n) (b .demote-at) (b .lent)),
-    )
+    record {
+      within = limits-within size (b .n) (b .demote-at) (first .0);
+      long = long-lent size (b .lent) (second .0);
+      header = cc answer;
+      memory = ap (λ (r : NewResult). r .after) same;
+    }
 
-pub began-sound : (size : ℕ) (u : State) → Began size u → Sound (windowOf u)
-began-sound size u b = let f = began-fresh size u b in subst Sound (sym (f .1)) (fresh-sound size (b .n) (b .demote-at) (b .lent) (f .0))
+module _ (size : ℕ) (u : State) (b : Began size u) where
+  accepted : Accepted size u b
+  accepted = began-accepted size u b
+
+  pub began-fresh : windowOf u ≡ freshWindow size (b .n) (b .demote-at) (b .lent)
+  began-fresh = rw (accepted .header, accepted .memory) (new-window size (b .n) (b .demote-at) (b .lent))
+
+  pub began-sound : Sound (windowOf u)
+  began-sound = subst Sound (sym began-fresh) (fresh-sound size (b .n) (b .demote-at) (b .lent) (accepted .within))
+
+  -- its header and lists fit
+  pub began-fits : lengthsFit u ≡ true
+  unfolding fresh cleared
+  began-fits =
+      let long = accepted .long in
+      rw (accepted .header, accepted .memory) (is-fit (fresh size (b .n) (b .demote-at)) _ _ _ _ (record {
+        within = accepted .within;
+        long = record {
+          sequences-long = long .sequences-long;
+          values-long = long .values-long;
+          pages-long = omega (arith, long .pages-long, zeroed-length (3 * pageCount size) (b .lent .pages) (long .pages-long));
+          blocks-long = omega (arith, long .blocks-long, zeroed-length (3 * blockCount size) (b .lent .blocks) (long .blocks-long));
+        };
+      }))
