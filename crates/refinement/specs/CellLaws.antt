@@ -1,6 +1,6 @@
 -- The cells in use and the positions that hold a pair correspond one to one, so any weight of their pairs is the same: in a page, and
 -- over the pages of a window that are counted. Assumes nothing.
-use mathlib.Core.Path.{_≡_, refl, sym, ap, _∙_}
+use mathlib.Core.Path.{_≡_, refl, sym, _∙_}
 use mathlib.Core.Bool.{Bool, true, cond, _&&_}
 use mathlib.Core.Option.{none}
 use Prim.Native.Nat.{ℕ, _+_, _*_, _/_, _%_, _<_}

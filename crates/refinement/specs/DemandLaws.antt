@@ -14,9 +14,9 @@ use Rattle.model.proofs.Carrying.{carries}
 use Rattle.refinement.specs.Seen.{positionsOf, positionsIn, SoundState}
 use Rattle.refinement.specs.ShowLaws.{refinement}
 
-fresh-header : (size n d : ℕ) → fresh size n d .«window_size» ≡ size
+fresh-size : (size n d : ℕ) → fresh size n d .«window_size» ≡ size
 unfolding fresh
-fresh-header size n d = refl
+fresh-size size n d = refl
 
 -- a fresh window has nothing at its positions
 fresh-seen : (size n d : ℕ) (m : Memory) → positionsOf (freshWindow size n d m) ≡ freshPositions
@@ -26,7 +26,7 @@ fresh-seen size n d m = λ i. record { live = λ q. fresh-live size n d m q i; r
 pub began : (size : ℕ) (u : State) → Began size u → Fresh size State Stepped pairsOf retiredOf heldOf lenOf (SoundState size) positionsIn u
 began size u b = record {
   sound = record {
-    of-size = ap (λ (h : AdaptiveReceiverPacketWindow). h .«window_size») (began-accepted size u b .header) ∙ fresh-header size (b .n) (b .demote-at);
+    of-size = ap (λ (h : AdaptiveReceiverPacketWindow). h .«window_size») (began-accepted size u b .header) ∙ fresh-size size (b .n) (b .demote-at);
     fit = began-fits size u b;
     sound = began-sound size u b;
   };

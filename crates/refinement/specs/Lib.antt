@@ -1,5 +1,5 @@
 -- The window seen from its positions: definitions (Seen), laws on bookkeeping and one page or position replaced (SeenLaws), on marks
--- (MarkLaws), on a page released or revived (ReleaseLaws), on the calls that retire nothing (PointLaws), on how many are retired
+-- (MarkLaws), on a page released or revived (ReleaseLaws), on the calls that retire nothing (PointLaws), on how many pairs there are
 -- (CountLaws) and a release over several pages (VisitLaws), on positions emptied value by value (SlotLaws), pages newly retired
 -- (MoveLaws, RetireLaws) and ranges (RangeLaws), on everything retired (ClearLaws, ClearBoundedLaws), on every call (CallLaws), on
 -- refusal 7 (AnswerLaws), and on states (StateLaws). Then what a window shows: weights of pairs (WeightLaws), of cells and positions

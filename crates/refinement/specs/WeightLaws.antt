@@ -11,7 +11,7 @@ use lib.ListN.{length}
 use Rattle.model.specs.Table.{Pair, Table, sum}
 use Rattle.model.specs.Demand3.{one, copies, values, pairsBelow}
 use Rattle.model.proofs.Sums.{case, total}
-use Rattle.soundness.specs.SumLaws.{sum-zero, sum-suc, sum-add, sum-none, sum-but}
+use Rattle.soundness.specs.SumLaws.{sum-suc, sum-add, sum-none, sum-but}
 
 -- ---- sums
 
