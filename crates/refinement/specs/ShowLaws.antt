@@ -53,7 +53,7 @@ module _ (w : Window) (ok : Proper w) where
       ∙ sym (weights-below (capacityOf w) f (retiredAt w))
       ∙ weights-values g retiredPositions
 
-  live-copies : (s v : ℕ) → copies s v (livePairs w) ≡ copies s v livePositions
+  pub live-copies : (s v : ℕ) → copies s v (livePairs w) ≡ copies s v livePositions
   live-copies s v = sym (weights-copies s v (livePairs w)) ∙ live-weights (isPair s v) ∙ weights-copies s v livePositions
 
   live-times : (v : ℕ) → times v (values (livePairs w)) ≡ times v (values livePositions)
