@@ -9,6 +9,8 @@ use text::Parsed;
 use text::append;
 use text::next_byte;
 use window::AdaptiveReceiverPacketWindow;
+ghost use Prim.Native.Nat.{_≤_};
+ghost use Rattle.windowlines.specs.Program.{Flushed, Finished};
 
 // What is kept between lines: the header (of zeros before an accepted n), how many bytes of a line have come (one more than its places
 // if it is too long), the place after the output so far, and whether the input has ended or a write has failed.
@@ -68,7 +70,9 @@ pub fn finish(
     listed_sequences: &mut [u32; 4096],
     listed_values: &mut [u32; 4096],
     out: &mut [u8; 262144],
-) -> Program {
+) -> Program
+    ensures { λ r. ⌜ Finished r ⌝ }
+{
     let answered = answer_line(
         p.window,
         line,
@@ -84,27 +88,38 @@ pub fn finish(
         p.at,
     );
     let window = answered.window;
-    let mut next = Program {
+    let at = answered.at;
+    let next = Program {
         window,
         length: 0,
-        at: answered.at,
+        at,
         ended: p.ended,
     };
-    if 65536 < next.at {
-        next = flush(next, out);
+    if 65536 < at {
+        return flush(next, out);
     }
     next
 }
 
 // The output so far is written. If that fails the program ends, and what has come of a line is dropped.
-pub fn flush(p: Program, out: &[u8; 262144]) -> Program {
-    let mut next = p;
+pub fn flush(p: Program, out: &[u8; 262144]) -> Program
+    ensures { λ r. ⌜ Flushed p r ⌝ }
+{
+    let window = p.window;
     if !write_part(out, p.at) {
-        next.ended = true;
-        next.length = 0;
+        return Program {
+            window,
+            length: 0,
+            at: 0,
+            ended: true,
+        };
     }
-    next.at = 0;
-    next
+    Program {
+        window,
+        length: p.length,
+        at: 0,
+        ended: p.ended,
+    }
 }
 
 // The bytes that came: each line that ends in them is answered, and the rest is kept.
@@ -163,7 +178,9 @@ fn feed_part(
     listed_sequences: &mut [u32; 4096],
     listed_values: &mut [u32; 4096],
     out: &mut [u8; 262144],
-) -> Program {
+) -> Program
+    ensures { λ r. ⌜ r .at ≤ p .at ⌝ }
+{
     if input.len() < n {
         return p;
     }
@@ -196,7 +213,9 @@ pub fn turn(
     listed_sequences: &mut [u32; 4096],
     listed_values: &mut [u32; 4096],
     out: &mut [u8; 262144],
-) -> Program {
+) -> Program
+    ensures { λ r. ⌜ r .at ≤ p .at ⌝ }
+{
     let n = read_some(input);
     if n == 0 {
         let mut last = p;
