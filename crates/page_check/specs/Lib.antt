@@ -1,0 +1,3 @@
+-- Whether a page is sound: what the functions promise (Contracts), and laws on deciding (DecideLaws).
+pub mod Contracts
+pub mod DecideLaws
