@@ -134,6 +134,22 @@ drain-inside (suc n) p (suc k) t q h a b =
       | no i ↦ drain-inside n (suc p) k (at t p none) q (omega arith) (omega arith) (omega arith)
     ]))
 
+-- where fewer than k are taken out, all n positions are emptied
+pub drain-rest : (n p k : ℕ) (t : Table) (q : ℕ) → length (drain n p k t .out) < k → p ≤ q → q < p + n → drain n p k t .left q ≡ none
+unfolding drain
+drain-rest zero p k t q h a b = absurd (omega arith)
+drain-rest (suc n) p zero t q h a b = absurd (omega arith)
+drain-rest (suc n) p (suc k) t q h a b =
+    case (t p)
+    (λ e. rw (drain-free n p k t e) (elim (ℕ-discrete q p) [
+      | yes i ↦ drain-none n (suc p) (suc k) t q (ap t i ∙ e)
+      | no i ↦ drain-rest n (suc p) (suc k) t q (rw (drain-free n p k t e) at h) (omega arith) (omega arith)
+    ]))
+    (λ x e. rw (drain-held n p k t x e) (elim (ℕ-discrete q p) [
+      | yes i ↦ drain-none n (suc p) k (at t p none) q (rw i (at-same t p none))
+      | no i ↦ let s = rw (drain-held n p k t x e) at h in drain-rest n (suc p) k (at t p none) q (omega (arith, s)) (omega arith) (omega arith)
+    ]))
+
 -- ---- how many are taken out
 
 pub drain-most : (n p k : ℕ) (t : Table) → length (drain n p k t .out) ≤ k

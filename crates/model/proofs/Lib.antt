@@ -2,11 +2,13 @@
 pub mod Sums
 pub mod Draining
 pub mod Releasing
+pub mod Units
 pub mod Sweeping
 pub mod Keeping
 pub mod Histories
 pub mod Carrying
 pub mod OverPositions
 pub mod Refusing
+pub mod Strangers
 pub mod Beginning
 pub mod Examples

@@ -7,6 +7,7 @@ pub mod Demand3
 pub mod Window
 pub mod Pages
 pub mod Steps
+pub mod Strangers
 pub mod Sound
 pub mod Contract
 pub mod Heads

@@ -2,7 +2,7 @@
 -- (MarkLaws), on a page released or revived (ReleaseLaws), on the calls that retire nothing (PointLaws), on how many pairs there are
 -- (CountLaws) and a release over several pages (VisitLaws), on positions emptied value by value (SlotLaws), pages newly retired
 -- (MoveLaws, RetireLaws) and ranges (RangeLaws), on everything retired (ClearLaws, ClearBoundedLaws), on every call (CallLaws), on
--- refusal 7 (AnswerLaws), and on states (StateLaws). Then what a window shows: weights of pairs (WeightLaws), of cells and positions
+-- what a release costs (UnitLaws), on refusal 7 (AnswerLaws), and on states (StateLaws). Then what a window shows: weights of pairs (WeightLaws), of cells and positions
 -- (CellLaws), and of what iter gives (IterLaws); what a sound state shows (ShowLaws), each
 -- live pair once (OnceLaws); and demand 3 of the window itself (DemandLaws).
 pub mod Seen
@@ -19,6 +19,7 @@ pub mod RangeLaws
 pub mod ClearLaws
 pub mod ClearBoundedLaws
 pub mod CallLaws
+pub mod UnitLaws
 pub mod AnswerLaws
 pub mod StateLaws
 pub mod WeightLaws

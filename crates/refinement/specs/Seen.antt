@@ -1,13 +1,15 @@
 -- The window and its states seen from the positions; a call that does to the window what `step` does at the positions; what a step
 -- owes. Definitions only. Assumes nothing.
 use mathlib.Core.Path.{_≡_}
-use mathlib.Core.Bool.{true}
+use mathlib.Core.Bool.{true, _&&_}
 use mathlib.Core.Option.{some}
 use Prim.Native.Nat.{ℕ}
 use Rattle.model.specs.Calls.{Call}
 use Rattle.model.specs.Roles.{roleOf}
-use Rattle.model.specs.Demand3.{Entry}
-use Rattle.model.specs.Window.{Window, sizeOf, liveAt, retiredAt}
+use Rattle.model.specs.Table.{sum}
+use Rattle.model.specs.Demand3.{one, Entry}
+use Rattle.model.specs.Window.{Window, sizeOf, pagesOf, isRetired, liveAt, retiredAt}
+use Rattle.model.specs.Pages.{holdsValue}
 use Rattle.model.specs.Positions.{Positions, positions, step}
 use Rattle.model.specs.Steps.{windowStep}
 use Rattle.model.specs.Sound.{Sound}
@@ -23,6 +25,10 @@ pub record Follows (w : Window) (c : Call) : Type 0 where
   pub after : positionsOf (windowStep w c .after) ≡ step (sizeOf w) (positionsOf w) c .after
   pub answer : roleOf c .shared ≡ true → step (sizeOf w) (positionsOf w) c .answer ≡ some (windowStep w c .answer)
   pub returned : windowStep w c .returned ≡ step (sizeOf w) (positionsOf w) c .returned
+
+-- the retired pages that hold a value
+abbrev pub retiredPages : Window → ℕ
+retiredPages w = sum (pagesOf w) (λ (g : ℕ). one (isRetired w g && holdsValue (w .pages g)))
 
 -- ---- states
 
