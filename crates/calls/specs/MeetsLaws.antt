@@ -40,9 +40,9 @@ refused-meets c u l k e n = record {
 }
 
 -- a call that alters nothing and returns nothing
-pub read-meets : (c : Call) (u : State) (a : Answer) → (c ≡ check → ⊥) → refusal u c ≡ 0
+pub read-meets : (c : Call) (u : State) (a : Answer) → (c ≡ check → (Sound (windowOf u) → ⊥) → a ≡ refused 7) → refusal u c ≡ 0
     → (Sound (windowOf u) → windowStep (windowOf u) c ≡ effect (windowOf u) a []) → Meets c u [] (leaves u [] a)
-read-meets c u a n e is = record {
+read-meets c u a unsound e is = record {
   refuses = λ h. absurd (h e);
   sound = λ z ok.
       let t = is ok in
@@ -54,7 +54,7 @@ read-meets c u a n e is = record {
       };
   occupied = λ z ok b. unaltered u [] a;
   none-with-4 = λ b. refl;
-  unsound = λ q z ok. absurd (n q);
+  unsound = λ q z not-sound. unsound q not-sound;
   reads = λ q. unaltered u [] a;
   past-list = refl;
   long-list = refl;

@@ -57,7 +57,7 @@ module _ (c : Call) (w : AdaptiveReceiverPacketWindow) (ss vs pages blocks : Lis
   quiet-meets a r t other none e is =
       let u = stateOf w ss vs pages blocks in
       subst (λ (y : Step). Meets c u [] (leftOf y ss vs pages blocks [])) (sym e)
-      (read-meets c u (answerOf a) (not-check c other) (fit-refusal u c (sym test ∙ not-false b t) ∙ none) is)
+      (read-meets c u (answerOf a) (λ q. absurd (not-check c other q)) (fit-refusal u c (sym test ∙ not-false b t) ∙ none) is)
 
   -- the same of a call that alters nothing on any window
   pub reply-meets : (a : Answer) (x : model.Answer) (r : Step) → not b ≡ false → isCheck c ≡ false → argumentRefusal (w .«window_size») c ≡ 0 → r ≡ replied w a
