@@ -1,13 +1,12 @@
 #!/usr/bin/env python3
 """The line program, as built, against recorded answers and against the oracle.
 
-  tests/windowlines.py recorded   recorded files with no letter but the program's own, byte for byte
-  tests/windowlines.py oracle     recorded and generated files cut down to the program's letters, the
-                                  same bytes in small writes, lines no program should be asked, and writes that fail
-
-A letter whose call the program does not have yet is cut out of a file, with its line.
+  tests/windowlines.py recorded   recorded files, byte for byte
+  tests/windowlines.py oracle     recorded and generated files, the same bytes in small writes, lines no program
+                                  should be asked, and writes that fail
 """
 import random
+import re
 import subprocess
 import sys
 from pathlib import Path
@@ -17,22 +16,14 @@ PROGRAM = ROOT / "target/bin/windowlines"
 ORACLE = ROOT / "oracle/target/oracle"
 GENERATE = ROOT / "oracle/target/generate"
 RECORDED = ROOT / "tests/recorded"
-NOT_YET = b"q"
-GENERATED = 520
+GENERATED = 1050
+STRANGERS = 100000  # at least so many q lines with a pair
 
 
 def split_at_line_feeds(data):
     parts = data.split(b"\n")
     whole = [part + b"\n" for part in parts[:-1]]
     return whole + [parts[-1]] if parts[-1] else whole
-
-
-def has_call(line):
-    return line[:1] not in NOT_YET or line[:1] == b""
-
-
-def cut(data):
-    return b"".join(line for line in split_at_line_feeds(data) if has_call(line))
 
 
 def run(command, data):
@@ -56,22 +47,19 @@ def recorded_inputs():
 
 
 def check_recorded():
-    """Files that hold no letter but the program's own: their recorded answers."""
     files = calls = 0
     for path in recorded_inputs():
         data = path.read_bytes()
-        if cut(data) != data:
-            continue
         compare(path.name, run(PROGRAM, data), path.with_suffix(".out").read_bytes())
         files += 1
         calls += len(split_at_line_feeds(data))
-    if files < 45:
-        raise SystemExit(f"only {files} recorded files have no letter but the program's own")
+    if files < 107:
+        raise SystemExit(f"only {files} recorded files")
     print(f"{calls} lines of {files} files")
 
 
 def generated(seed):
-    options = [[], ["--small"], ["--small", "--pairs"], ["--clean"], ["--small", "--clean"]][seed % 5]
+    options = [[], ["--small"], ["--small", "--pairs"], ["--clean"], ["--small", "--clean"], ["--strangers"], ["--small", "--strangers", "--clean"]][seed % 7]
     calls = [60, 300, 1000, 3000][seed % 4]
     command = [str(GENERATE), str(seed), str(calls)] + options
     return subprocess.run(command, capture_output=True, check=True).stdout
@@ -121,27 +109,30 @@ def check_failed_writes(data):
 
 
 def check_oracle():
-    files = calls = 0
+    files = calls = strangers = 0
     for path in recorded_inputs():
-        data = cut(path.read_bytes())
-        compare(f"{path.name}, cut", run(PROGRAM, data), run(ORACLE, data))
+        data = path.read_bytes()
+        compare(path.name, run(PROGRAM, data), run(ORACLE, data))
         files += 1
         calls += len(split_at_line_feeds(data))
     for seed in range(50001, 50001 + GENERATED):
-        data = cut(generated(seed))
-        compare(f"generate {seed}, cut", run(PROGRAM, data), run(ORACLE, data))
+        data = generated(seed)
+        answers = run(ORACLE, data)
+        compare(f"generate {seed}", run(PROGRAM, data), answers)
         files += 1
         calls += len(split_at_line_feeds(data))
+        strangers += len(re.findall(rb"^q\t\d", answers, re.M))
         if seed % 40 == 0:
             small = data[:4000]
-            compare(f"generate {seed}, cut, in small writes", in_small_writes(small, seed), run(ORACLE, small))
+            compare(f"generate {seed}, in small writes", in_small_writes(small, seed), run(ORACLE, small))
+    if strangers < STRANGERS:
+        raise SystemExit(f"only {strangers} q lines with a pair")
     odd = 0
     for data in odd_inputs():
-        data = cut(data)
         compare(f"odd input {odd}: {data[:80]!r}", run(PROGRAM, data), run(ORACLE, data))
         odd += 1
-    check_failed_writes(cut(generated(50001)))
-    print(f"{calls} lines of {files} files, {GENERATED} of them generated, and {odd} odd inputs")
+    check_failed_writes(generated(50001))
+    print(f"{calls} lines of {files} files, {GENERATED} of them generated, {strangers} strangers among them, and {odd} odd inputs")
 
 
 if __name__ == "__main__":

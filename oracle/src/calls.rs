@@ -561,6 +561,22 @@ impl Generator {
         }
     }
 
+    /// A range to look for strangers in: mostly one whose sequences share
+    /// positions with a value that is probably live.
+    pub fn stranger(&mut self) -> Call {
+        let (first, last) = match self.random.below(3) {
+            0 => self.ends(),
+            _ => {
+                let known = self.known();
+                let alias = self.alias_of(known);
+                let count = self.random.between(1, self.window_size);
+                let first = alias.wrapping_sub(self.random.below(count));
+                (first, first.wrapping_add(count - 1))
+            }
+        };
+        Call::Stranger { first, last }
+    }
+
     fn range(&mut self) {
         let (first, last) = self.ends();
         if self.random.percent(40) {

@@ -109,6 +109,7 @@ fn written_answer(answer: &Answer) -> String {
         Answer::Refused(refusal) => format!("!{refusal}"),
         Answer::Number(number) => number.to_string(),
         Answer::Released { released, units } => format!("{released}:{units}"),
+        Answer::Pair { sequence, .. } => sequence.to_string(),
         Answer::Pairs(pairs) => pairs.len().to_string(),
     }
 }

@@ -24,6 +24,7 @@ pub enum Answer {
     Refused(u32),
     Number(u32),
     Released { released: u32, units: u32 },
+    Pair { sequence: u32, value: u32 },
     Pairs(Vec<(u32, u32)>),
 }
 
@@ -167,12 +168,11 @@ fn stranger<const N: usize>(window: &Source<N>, first: u32, last: u32) -> Answer
     let outside = |sequence: u32| {
         sequence.wrapping_sub(first) & DISTANCE_MASK > reach || sequence & TOP_BIT != 0
     };
-    let found = live_pairs(window)
+    live_pairs(window)
         .into_iter()
-        .map(|(sequence, _)| sequence)
-        .filter(|&sequence| offset(sequence) <= reach && outside(sequence))
-        .min_by_key(|&sequence| offset(sequence));
-    Answer::number_or_absent(found)
+        .filter(|&(sequence, _)| offset(sequence) <= reach && outside(sequence))
+        .min_by_key(|&(sequence, _)| offset(sequence))
+        .map_or(Answer::Absent, |(sequence, value)| Answer::Pair { sequence, value })
 }
 
 /// One arm for each N, since the source wants it when it is compiled.

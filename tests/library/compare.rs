@@ -1,9 +1,9 @@
 //! The static library against the source, in one process.
 //!
-//! `compare FIRST LAST CALLS [--large|--small]`: one list of calls for each seed. Each call is made on the source and, where
-//! the library has it, on the library: the answer, the returned values in order, the header, all block words, and words and
+//! `compare FIRST LAST CALLS [--large|--small]`: one list of calls for each seed, with more of stranger's among them. Each call is
+//! made on the source and on the library: the answer, the returned values in order, the header, all block words, and words and
 //! cells in use of the pages that the call may have changed are compared after it, those of all pages after each call on windows
-//! up to 512 and now and then on larger ones. After a call that the library lacks its window is copied from the source.
+//! up to 512 and now and then on larger ones.
 
 /// The source's work counters stay out.
 macro_rules! count_work {
@@ -27,14 +27,14 @@ mod window;
 use calls::{Generator, Item, Options, Random};
 use library::Library;
 use line::Call;
-use reference::{call_and_drops, fresh, Window};
+use reference::{call_and_drops, fresh, Answer, Window};
 use std::process::ExitCode;
 
 #[derive(Default)]
 struct Counts {
     compared: u64,
     refused: u64,
-    copied: u64,
+    strangers: u64,
 }
 
 struct Both {
@@ -63,12 +63,9 @@ impl Both {
             counts.refused += 1;
         }
         let (answer, dropped) = call_and_drops(self.source.as_mut(), call);
-        if !self.library.call(call, &answer, &dropped)? {
-            self.library.copy(self.source.as_ref());
-            counts.copied += 1;
-            return Ok(());
-        }
+        self.library.call(call, &answer, &dropped)?;
         counts.compared += 1;
+        counts.strangers += u64::from(matches!(answer, Answer::Pair { .. }));
         let all = self.source.page_count() <= 8 || random.percent(1);
         let pages = self.pages(call, all);
         if let Some(difference) = self.library.differs(self.source.as_ref(), pages.into_iter()) {
@@ -111,7 +108,12 @@ fn list(seed: u64, calls: u32, options: Options, counts: &mut Counts) -> Result<
             (_, Some(both)) => both.call(&mut random, counts, call),
             (_, None) => Ok(()),
         };
-        done.map_err(|why| format!("seed {seed}, line {number}, {:?}: {why}", call.line()))?;
+        let failed = |call: Call, why| format!("seed {seed}, line {number}, {:?}: {why}", call.line());
+        done.map_err(|why| failed(call, why))?;
+        if let (Some(both), true) = (&mut both, random.percent(10)) {
+            let call = generator.stranger();
+            both.call(&mut random, counts, call).map_err(|why| failed(call, why))?;
+        }
     }
     Ok(())
 }
@@ -130,11 +132,11 @@ fn run(arguments: &[String]) -> Result<String, String> {
     for seed in first..=last {
         list(seed, calls as u32, options, &mut counts)?;
     }
-    let Counts { compared, refused, copied } = counts;
-    if compared == 0 || refused == 0 {
-        return Err("no call was compared".to_string());
+    let Counts { compared, refused, strangers } = counts;
+    if compared == 0 || refused == 0 || strangers == 0 {
+        return Err("no call was compared, or no stranger was found".to_string());
     }
-    Ok(format!("{compared} calls as the source, {refused} with a short list refused 6, {copied} states copied"))
+    Ok(format!("{compared} calls as the source, {refused} with a short list refused 6, {strangers} strangers found"))
 }
 
 fn main() -> ExitCode {

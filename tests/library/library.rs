@@ -48,6 +48,10 @@ fn wanted(answer: &Answer) -> NumberedAnswer {
             second: units,
             ..numbered(6, released)
         },
+        Answer::Pair { sequence, value } => NumberedAnswer {
+            second: value,
+            ..numbered(PAIR, sequence)
+        },
         Answer::Pairs(_) => unreachable!("no step of the library"),
     }
 }
@@ -145,15 +149,16 @@ impl Library {
         }
     }
 
-    /// One step of the library; `None` if it has no such call. For iter the step from `cell`.
-    fn step(&mut self, lengths: Lengths, call: Call, cell: u32) -> Option<NumberedStep> {
+    /// One step of the library, of any call but new. For iter the step from `cell`.
+    fn step(&mut self, lengths: Lengths, call: Call, cell: u32) -> NumberedStep {
         let w = self.header;
         let Lists { sequences, values, pages, blocks, returned } = &mut self.lists;
         let (sl, vl, pl, bl) = (lengths.cells[0], lengths.cells[1], lengths.words[0], lengths.words[1]);
         let (s, v, p, b) = (sequences.as_mut_ptr(), values.as_mut_ptr(), pages.as_mut_ptr(), blocks.as_mut_ptr());
         let (r, rl) = (returned.as_mut_ptr(), lengths.returned);
-        Some(unsafe {
+        unsafe {
             match call {
+                Call::New { .. } => unreachable!("new makes a window, it is no call on one"),
                 Call::Insert { sequence, value } => packet_window_insert(w, s, sl, v, vl, p, pl, b, bl, r, rl, sequence, value),
                 Call::Get(sequence) => packet_window_get(w, s, sl, v, vl, p, pl, b, bl, sequence),
                 Call::Remove(sequence) => packet_window_remove(w, s, sl, v, vl, p, pl, b, bl, sequence),
@@ -161,13 +166,13 @@ impl Library {
                 Call::FirstFrom(sequence) => packet_window_first_from(w, s, sl, v, vl, p, pl, b, bl, sequence),
                 Call::Exchange { sequence, value } => packet_window_exchange(w, s, sl, v, vl, p, pl, b, bl, sequence, value),
                 Call::Iter => packet_window_iter(w, s, sl, v, vl, p, pl, b, bl, cell),
+                Call::Stranger { first, last } => packet_window_stranger(w, s, sl, v, vl, p, pl, b, bl, first, last),
                 Call::RemoveRange { first, last } => packet_window_remove_range(w, s, sl, v, vl, p, pl, b, bl, r, rl, first, last),
                 Call::ReleaseRetired(budget) => packet_window_release_retired(w, s, sl, v, vl, p, pl, b, bl, r, rl, budget),
                 Call::Clear => packet_window_clear(w, s, sl, v, vl, p, pl, b, bl, r, rl),
                 Call::ClearBounded(number) => packet_window_clear_bounded(w, s, sl, v, vl, p, pl, b, bl, r, rl, number),
-                _ => return None,
             }
-        })
+        }
     }
 
     /// With one list one short: refusal 6, and nothing is written.
@@ -183,24 +188,20 @@ impl Library {
             _ => lengths.returned -= 1,
         }
         let before = self.lists.clone();
-        let Some(step) = self.step(lengths, call, 0) else {
-            return Ok(());
-        };
+        let step = self.step(lengths, call, 0);
         if step.answer != numbered(REFUSED, SHORT_MEMORY) || step.count != 0 || step.window != self.header || self.lists != before {
             return Err(format!("with a short list: {:?}", step.answer));
         }
         Ok(())
     }
 
-    /// The call on both, compared with what the source answered and dropped; whether the library has it.
-    pub fn call(&mut self, call: Call, answer: &Answer, dropped: &[u32]) -> Result<bool, String> {
+    /// The call on both, compared with what the source answered and dropped.
+    pub fn call(&mut self, call: Call, answer: &Answer, dropped: &[u32]) -> Result<(), String> {
         if let Answer::Pairs(pairs) = answer {
-            return self.pairs(call, pairs).map(|()| true);
+            return self.pairs(call, pairs);
         }
         let before = self.lists.returned.clone();
-        let Some(step) = self.step(self.lengths, call, 0) else {
-            return Ok(false);
-        };
+        let step = self.step(self.lengths, call, 0);
         self.header = step.window;
         let count = step.count as usize;
         if step.answer != wanted(answer) {
@@ -212,14 +213,14 @@ impl Library {
         if self.lists.returned[count..] != before[count..] {
             return Err("the return list past the count changed".to_string());
         }
-        Ok(true)
+        Ok(())
     }
 
     fn pairs(&mut self, call: Call, pairs: &[(u32, u32)]) -> Result<(), String> {
         let before = (self.header, self.lists.clone());
         let (mut cell, mut found) = (0, Vec::new());
         loop {
-            let step = self.step(self.lengths, call, cell).ok_or("iter is missing")?;
+            let step = self.step(self.lengths, call, cell);
             match step.answer {
                 NumberedAnswer { code: PAIR, first, second, third } if third > cell => {
                     found.push((first, second));
@@ -257,21 +258,6 @@ impl Library {
             }
         }
         None
-    }
-
-    /// The library's window becomes the source's; cells not in use keep what they hold.
-    pub fn copy(&mut self, source: &dyn Window) {
-        self.header = source.header().into();
-        let words = source.block_words();
-        self.lists.blocks[..words.len()].copy_from_slice(words);
-        for page in 0..source.page_count() {
-            let words = source.page_words(page);
-            self.lists.pages[3 * page..3 * page + 3].copy_from_slice(&[words.kind, words.occupied, words.filled]);
-            for (cell, sequence, value) in source.page_cells(page) {
-                self.lists.sequences[64 * page + cell] = sequence;
-                self.lists.values[64 * page + cell] = value;
-            }
-        }
     }
 
     /// The elements past the named lengths.

@@ -1,5 +1,5 @@
--- A refusal 6 and a reply, as the code gives them, meet the contract of the call. Assumes nothing.
-use mathlib.Core.Path.{_≡_, sym, ap, _∙_, subst}
+-- A refusal for arguments and a reply, as the code gives them, meet the contract of the call. Assumes nothing.
+use mathlib.Core.Path.{_≡_, refl, sym, ap, _∙_, subst}
 use mathlib.Core.Bool.{Bool, true, false, not, true≢false}
 use mathlib.Core.List.{List, []}
 use Prim.Native.Nat.{ℕ}
@@ -9,8 +9,11 @@ use borrow.Author.Tests.{not-true, not-false}
 use Rattle.window.specs.declared.AdaptiveReceiverPacketWindow.{AdaptiveReceiverPacketWindow}
 use Rattle.window.specs.declared.answers.Answer.{Answer}
 use Rattle.window.specs.declared.answers.Step.{Step}
+use Rattle.window.specs.declared.refusals.Refusal.{Refusal}
 use Rattle.window.specs.declared.refusals.Refusal.the-variants.{ShortMemory}
-use Rattle.window.specs.Refusals.{fits}
+use Rattle.window.specs.declared.refusals.Verdict.the-variants.{Refuse}
+use Rattle.window.specs.Refusals.{refusalNumber, fits}
+use Rattle.window.specs.RefusalLaws.{refuses}
 use Rattle.model.specs.Calls.{Call, insert, get, exchange, remove, successor-after, first-from, remove-range, clear, clear-bounded, release-retired, iter, stranger, check}
 use Rattle.model.specs.Calls as model
 use Rattle.model.specs.Contract.{Meets, windowOf, argumentRefusal}
@@ -48,6 +51,14 @@ module _ (c : Call) (w : AdaptiveReceiverPacketWindow) (ss vs pages blocks : Lis
       let u = stateOf w ss vs pages blocks in
       subst (λ (x : Step). Meets c u l (leftOf x ss vs pages blocks l)) (sym e)
       (refused-meets c u l 6 (short-refusal u c (sym test ∙ not-true b t)) (λ z. omega arith))
+
+  -- a refusal for the call's own arguments
+  pub argument-meets : (why : Refusal) (l : List ℕ) (r : Step) → not b ≡ false → argumentRefusal (w .«window_size») c ≡ refusalNumber why → r ≡ refusedBy w why
+      → Meets c (stateOf w ss vs pages blocks) l (leftOf r ss vs pages blocks l)
+  argument-meets why l r t k e =
+      let u = stateOf w ss vs pages blocks in
+      subst (λ (x : Step). Meets c u l (leftOf x ss vs pages blocks l)) (sym e)
+      (refused-meets c u l (refusalNumber why) (fit-refusal u c (sym test ∙ not-false b t) ∙ k) (refuses (Refuse why) why refl))
 
   -- a call that alters nothing and gives the model's answer
   pub quiet-meets : (a : Answer) (r : Step) → not b ≡ false → isCheck c ≡ false → argumentRefusal (w .«window_size») c ≡ 0 → r ≡ replied w a

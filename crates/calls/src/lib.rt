@@ -1,4 +1,4 @@
-// What the calls share: an outcome with nothing returned, and whether a page's values are reachable.
+// What the calls share: an outcome with nothing returned, whether a page's values are reachable, and the count of a range.
 use masks::marks::page_retired;
 use pages::find::Read;
 use window::AdaptiveReceiverPacketWindow;
@@ -9,6 +9,7 @@ use window::refusals::Refusal;
 ghost use mathlib.Core.Path.{_≡_};
 ghost use Prim.Native.Nat.{_+_, _*_, _/_, _≤_, _<_};
 ghost use lib.ListN.{length};
+ghost use Rattle.model.specs.Table.{rangeCount};
 ghost use Rattle.pages.specs.Contracts.{readAnswer};
 ghost use Rattle.calls.specs.Answers.{answerOf, replied, refusedBy};
 ghost use Rattle.calls.specs.Contracts.{Reachable};
@@ -49,4 +50,12 @@ pub fn reachable(w: AdaptiveReceiverPacketWindow, blocks: &[u64], page: usize) -
         return 1;
     }
     1 - page_retired(blocks, w.retired_blocks, page)
+}
+
+// How many positions a range has: the distance from first to last, of 31 bits, and one.
+pub fn range_count(first: u32, last: u32) -> u32
+    ensures { λ r. ⌜ r ≡ rangeCount first last ⌝ }
+{
+    let distance = std::num::wrapping_sub_u32(last, first);
+    distance % 0x8000_0000 + 1
 }

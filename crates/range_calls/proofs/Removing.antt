@@ -5,7 +5,7 @@ use mathlib.Core.List.{List, _++_}
 use Prim.Native.Nat.{ℕ, _+_, _/_, _%_, _^_, _≤_, _<_}
 use native.Mathlib.Omega.{arith}
 use lib.Dec.{leb, eqb}
-use borrow.Author.Tests.{le-leb, lt-leb, eq-eqb, ne-eqb}
+use borrow.Author.Tests.{le-leb, eq-eqb, ne-eqb}
 use Rattle.words.specs.Cases.{bool}
 use Rattle.window.specs.declared.AdaptiveReceiverPacketWindow.{AdaptiveReceiverPacketWindow}
 use Rattle.window.specs.declared.answers.Answer.the-variants.{Found}
@@ -13,7 +13,6 @@ use Rattle.window.specs.Memory.{Memory, memory, capacity, position}
 use Rattle.window.specs.MemoryLaws.{capacity-pages, capacity-le}
 use Rattle.model.specs.Calls.{remove-range, found}
 use Rattle.model.specs.Table.{rangeCount, heldInRange}
-use Rattle.model.specs.Contract.{first}
 use Rattle.model.specs.Window.{Window, window, noPage, noBlock, decode, capacityOf, pagesOf, liveAt}
 use Rattle.model.specs.Steps.{withHeader, setCursor, dropBlockMarks, Release, releaseOf, release, retireRange, effect, windowStep, rangeStep}
 use Rattle.model.specs.Sound.{Sound}
@@ -43,17 +42,7 @@ use Rattle.range_calls.specs.Finish.{finished}
 use Rattle.range_calls.specs.Range.{aimed, readied, retireReady}
 use Rattle.range_calls.proofs.Finishing.{words-past, words-lengths, finished-fills}
 
--- ---- refusal 5, for more positions than window_size, and the call without one
-
-pub count-refused : (first-one last size : ℕ) → size < rangeCount first-one last → first 5 (leb (rangeCount first-one last) size) 0 ≡ 5
-count-refused a b size l = rw (lt-leb (rangeCount a b) size l)
-
-pub count-taken : (first-one last size : ℕ) → rangeCount first-one last ≤ size → first 5 (leb (rangeCount first-one last) size) 0 ≡ 0
-count-taken a b size l = rw (le-leb (rangeCount a b) size l)
-
-pub count-some : (first-one last : ℕ) → 0 < rangeCount first-one last
-unfolding rangeCount
-count-some a b = omega arith
+-- ---- the call, with its arguments taken
 
 pub range-taken : (h : AdaptiveReceiverPacketWindow) (m : Memory) (a b long start count : ℕ) → 384 ≤ long → count ≡ rangeCount a b → count ≤ h .«window_size» → start ≡ position (h .«window_size») a
     → rangeStep (decode h m) start count ≡ windowStep (decode h m) (remove-range a b (leb 384 long))

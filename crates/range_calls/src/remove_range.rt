@@ -1,5 +1,6 @@
 // remove_range: the live values at the positions from first's to last's retired, and a release visit with its whole budget.
 use crate::finish;
+use calls::range_count;
 use calls::refuse;
 use masks::marks::settle_retired;
 use ranges::Retired;
@@ -10,14 +11,12 @@ use window::answers::Step;
 use window::memory::position;
 use window::refusals::Refusal;
 use window::refusals::fits_with_list;
-ghost use mathlib.Core.Path.{_≡_};
 ghost use Prim.Native.Nat.{_≤_, _<_};
 ghost use lib.Dec.{leb};
 ghost use lib.ListN.{length};
 ghost use Rattle.window.specs.Memory.{memory, capacity};
 ghost use Rattle.window.specs.RefusalLaws.{Fits};
 ghost use Rattle.model.specs.Calls.{remove-range};
-ghost use Rattle.model.specs.Table.{rangeCount};
 ghost use Rattle.model.specs.Steps.{rangeStep};
 ghost use Rattle.model.specs.Contract.{Meets};
 ghost use Rattle.masks.specs.Contracts.{ChangesHeader};
@@ -25,14 +24,6 @@ ghost use Rattle.calls.specs.Answers.{stateOf, leftOf};
 ghost use Rattle.calls.specs.Contracts.{Fills};
 ghost use Rattle.ranges.specs.Contracts.{Performs};
 ghost use Rattle.range_calls.specs.Range.{readied, retireReady};
-
-// How many positions a range has: the distance from first to last, of 31 bits, and one.
-fn range_count(first: u32, last: u32) -> u32
-    ensures { λ r. ⌜ r ≡ rangeCount first last ⌝ }
-{
-    let distance = std::num::wrapping_sub_u32(last, first);
-    distance % 0x8000_0000 + 1
-}
 
 // The header made ready for a release: with nothing retired before, `held`, the cursor goes to the page of `start`; with nothing
 // retired now, the block marks drop.

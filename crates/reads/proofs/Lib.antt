@@ -4,3 +4,6 @@ pub mod Rounding
 pub mod CellWalk
 pub mod OwnPage
 pub mod Iterating
+pub mod Strangers
+pub mod RangeStrangers
+pub mod StrangerAnswer

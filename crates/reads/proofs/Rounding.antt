@@ -40,11 +40,11 @@ isAbsent (pair s v next) = false
 isAbsent (released values units) = false
 isAbsent (refused k) = false
 
-not-absent : (a : Answer) → isAbsent a ≡ false → a ≡ absent → ⊥
+pub not-absent : (a : Answer) → isAbsent a ≡ false → a ≡ absent → ⊥
 not-absent a e z = true≢false (sym (ap isAbsent z) ∙ e)
 
 -- no pair where no sequence is given
-none-held : (o : Option Pair) → sequenceOf o ≡ absent → holds o ≡ false
+pub none-held : (o : Option Pair) → sequenceOf o ≡ absent → holds o ≡ false
 none-held none e = refl
 none-held (some x) e = absurd (not-absent (found (x .sequence)) refl e)
 
@@ -63,10 +63,10 @@ module _ (v : Window) (cap : ℕ) where
   abbrev at : ℕ → ℕ → Answer
   at e q = cond (ltb q e) (sequenceOf (liveAt v q)) absent
 
-  at-in : (e q : ℕ) → ltb q e ≡ true → at e q ≡ sequenceOf (liveAt v q)
+  pub at-in : (e q : ℕ) → ltb q e ≡ true → at e q ≡ sequenceOf (liveAt v q)
   at-in e q l = rw l
 
-  at-past : (e q : ℕ) → ltb q e ≡ false → at e q ≡ absent
+  pub at-past : (e q : ℕ) → ltb q e ≡ false → at e q ≡ absent
   at-past e q l = rw l
 
   at-end : at cap cap ≡ absent

@@ -2,14 +2,20 @@
 -- Assumes nothing.
 use mathlib.Core.Path.{_≡_}
 use mathlib.Core.List.{List}
+use mathlib.Core.Bool.{Bool, cond, _&&_}
+use mathlib.Core.Option.{some}
 use Prim.Native.Nat.{ℕ, _+_, _-_, _*_, _≤_}
-use Rattle.words.specs.First.{firstFrom}
+use lib.Dec.{ltb}
+use Rattle.words.specs.First.{firstFrom, firstRound}
 use Rattle.window.specs.declared.AdaptiveReceiverPacketWindow.{AdaptiveReceiverPacketWindow}
-use Rattle.window.specs.Memory.{memory, position}
-use Rattle.model.specs.Calls.{Answer}
-use Rattle.model.specs.Table.{searchFrom}
-use Rattle.model.specs.Window.{decode, liveAt, isReached, capacityOf}
+use Rattle.window.specs.Memory.{Memory, memory, position}
+use Rattle.model.specs.Calls.{Answer, absent}
+use Rattle.model.specs.Table.{Pair, covers, sequenceOf, searchFrom}
+use Rattle.model.specs.Window.{Window, decode, sizeOf, liveAt, isReached, capacityOf}
+use Rattle.model.specs.Steps.{isStranger, pairAnswer}
 use Rattle.model.specs.Sound.{Sound}
+use Rattle.searches.specs.declared.walk.Found.{Found}
+use Rattle.searches.specs.Contracts.{foundAnswer}
 
 -- "successor_after looks from the next position round to its own, last of all"
 pub record FindsRound (h : AdaptiveReceiverPacketWindow) (ss pages blocks : List ℕ) (s : ℕ) (r : Answer) : Type 0 where
@@ -25,3 +31,40 @@ pub record FindsInPage (h : AdaptiveReceiverPacketWindow) (pages blocks : List �
 pub record FindsCell (h : AdaptiveReceiverPacketWindow) (pages blocks : List ℕ) (start end r : ℕ) : Type 0 where
   pub bounded : r ≤ end
   pub gives : (ss vs : List ℕ) → Sound (decode h (memory ss vs pages blocks)) → r ≡ firstFrom (isReached (decode h (memory ss vs pages blocks))) (end - start) start
+
+-- ---- stranger
+
+-- the sequence of the first stranger at the positions from start up to end
+unfoldable pub strangerFrom : Window → ℕ → ℕ → ℕ → ℕ → Answer
+strangerFrom w start end first count =
+    let q = firstFrom (λ (r : ℕ). isStranger first count (liveAt w r)) (end - start) start in
+    cond (ltb q end) (sequenceOf (liveAt w q)) absent
+
+pub record FindsStranger (h : AdaptiveReceiverPacketWindow) (ss pages blocks : List ℕ) (start end first count : ℕ) (r : Found) : Type 0 where
+  pub gives : (vs : List ℕ) → Sound (decode h (memory ss vs pages blocks))
+      → foundAnswer r ≡ strangerFrom (decode h (memory ss vs pages blocks)) start end first count
+
+-- the position is one of the range, and a stranger stands there
+abbrev pub strangerAt : Window → ℕ → ℕ → ℕ → Bool
+strangerAt w first count r = covers (capacityOf w) (position (sizeOf w) first) count r && isStranger first count (liveAt w r)
+
+-- the position of the first of them; the capacity if there is none
+unfoldable pub strangerPosition : Window → ℕ → ℕ → ℕ
+strangerPosition w first count = firstRound (strangerAt w first count) (capacityOf w) (position (sizeOf w) first)
+
+-- the sequence there
+unfoldable pub strangerInRange : Window → ℕ → ℕ → Answer
+strangerInRange w first count = let q = strangerPosition w first count in cond (ltb q (capacityOf w)) (sequenceOf (liveAt w q)) absent
+
+pub record FindsInRange (h : AdaptiveReceiverPacketWindow) (ss pages blocks : List ℕ) (first count : ℕ) (r : Found) : Type 0 where
+  pub gives : (vs : List ℕ) → Sound (decode h (memory ss vs pages blocks))
+      → foundAnswer r ≡ strangerInRange (decode h (memory ss vs pages blocks)) first count
+
+-- the pair that stands at position q, if its sequence is s
+pub record GivesPair (h : AdaptiveReceiverPacketWindow) (m : Memory) (s : ℕ) (r : Answer) : Type 0 where
+  pub gives : Sound (decode h m) → (e : Pair) → liveAt (decode h m) (position (h .«window_size») s) ≡ some e → e .sequence ≡ s → r ≡ pairAnswer (some e)
+
+-- the pair at the first position of a test, if a search found its sequence
+pub record GivesFound (h : AdaptiveReceiverPacketWindow) (m : Memory) (found : Found) (r : Answer) : Type 0 where
+  pub gives : Sound (decode h m) → (q : ℕ) → foundAnswer found ≡ cond (ltb q (capacityOf (decode h m))) (sequenceOf (liveAt (decode h m) q)) absent
+      → r ≡ cond (ltb q (capacityOf (decode h m))) (pairAnswer (liveAt (decode h m) q)) absent

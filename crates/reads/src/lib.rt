@@ -1,7 +1,8 @@
-// The calls that read: get, successor_after, first_from and iter. Each takes the header, the lent lists and numbers, and gives the
-// header back as it is.
+// The calls that read: get, successor_after, first_from and iter; stranger.rt has stranger. Each takes the header, the lent lists and
+// numbers, and gives the header back as it is.
 pub mod cells;
 pub mod round;
+pub mod stranger;
 
 use calls::reachable;
 use calls::read_answer;

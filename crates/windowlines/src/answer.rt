@@ -12,6 +12,7 @@ use range_calls::remove_range::remove_range;
 use reads::first_from;
 use reads::get;
 use reads::iter;
+use reads::stranger::stranger;
 use reads::successor_after;
 use text::Fields;
 use window::AdaptiveReceiverPacketWindow;
@@ -107,6 +108,7 @@ fn call(
         b's' => Called::Stepped(successor_after(w, sequences, values, pages, blocks, first)),
         b'f' => Called::Stepped(first_from(w, sequences, values, pages, blocks, first)),
         b'e' => Called::Stepped(exchange(w, sequences, values, pages, blocks, first, second)),
+        b'q' => Called::Stepped(stranger(w, sequences, values, pages, blocks, first, second)),
         _ => range_call(w, sequences, values, pages, blocks, returned, f),
     }
 }

@@ -14,14 +14,15 @@ use Rattle.model.specs.Window.{Window}
 use Rattle.model.specs.Steps.{rangeStep}
 use Rattle.model.specs.Contract.{first}
 use Rattle.calls.specs.ListLaws.{short-list, long-list, argument-meets, fills-meet}
-use Rattle.range_calls.proofs.Removing.{count-refused, count-taken, count-some, range-taken}
+use Rattle.calls.specs.RangeLaws.{count-refused, count-taken, count-some}
+use Rattle.range_calls.proofs.Removing.{range-taken}
 use borrow.Author.Needs.{needs}
 use Rattle.range_calls.proofs.remove_range.remove_range.Statement.{statement}
 use Rattle.range_calls.proofs.remove_range.remove_range.Tie as tie
 use Rattle.range_calls.proofs.remove_range.remove_range.Reads as reads
 use Rattle.range_calls.proofs.remove_range.remove_range.Lts as lts
 use Rattle.calls.proofs.refuse.Reads as refuse-reads
-use Rattle.range_calls.proofs.remove_range.range_count.Reads as range-count-reads
+use Rattle.calls.proofs.range_count.Reads as range-count-reads
 use Rattle.range_calls.proofs.remove_range.remove_positions.Reads as remove-positions-reads
 use Rattle.window.proofs.memory.position.Reads as position-reads
 use Rattle.window.proofs.refusals.fits_with_list.Reads as fits-with-list-reads

@@ -1,21 +1,21 @@
 use native.Mathlib.Omega.{arith}
 use Rattle.model.specs.Table.{rangeCount}
 use borrow.Author.Needs.{needs}
-use Rattle.range_calls.proofs.remove_range.range_count.Statement.{statement}
-use Rattle.range_calls.proofs.remove_range.range_count.Tie as tie
-use Rattle.range_calls.proofs.remove_range.range_count.Reads as reads
-use Rattle.range_calls.proofs.remove_range.range_count.Lts as lts
+use Rattle.calls.proofs.range_count.Statement.{statement}
+use Rattle.calls.proofs.range_count.Tie as tie
+use Rattle.calls.proofs.range_count.Reads as reads
+use Rattle.calls.proofs.range_count.Lts as lts
 use Rattle.std.proofs.num.wrapping_sub_u32.Reads as wrapping-sub-u32-reads
 
--- src/remove_range.rt:33:9
+-- src/lib.rt:59:9
 wrapping-sub-u32-requires : tie.Need-wrapping-sub-u32-requires
 wrapping-sub-u32-requires c κs = search needs
 
--- src/remove_range.rt:34:5
+-- src/lib.rt:60:5
 add-result : tie.Need-add-result
 add-result c = search needs
 
--- src/remove_range.rt:30:1
+-- src/lib.rt:56:1
 returns : tie.Need-returns
 unfolding rangeCount
 returns c = omega (arith, c .wrapping-sub-u32 .ensures)
