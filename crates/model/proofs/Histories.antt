@@ -189,10 +189,7 @@ module _ (W : Type 0) (Met : W → Entry → W → Type 0) where
           → common (callsOf xs) ≡ common (callsOf ys) → Demand3 W Met pairs retired retiredHeld len size g h
       histories-demand3 {xs = xs} {ys = ys} i j g h e = record {
         ends = histories-agree i j g h e;
-        each-first = λ k.
-            let r = common-first xs ys e k in
-            (r .0, r .1, histories-agree i j (first-history k g) (first-history (r .0) h) (r .1));
-        each-second = λ k.
-            let r = common-first ys xs (sym e) k in
-            (r .0, sym (r .1), histories-agree i j (first-history (r .0) g) (first-history k h) (sym (r .1)));
+        each-first = common-first xs ys e;
+        each-second = λ k. let r = common-first ys xs (sym e) k in (r .0, sym (r .1));
+        each = λ k l q. histories-agree i j (first-history k g) (first-history l h) q;
       }

@@ -156,8 +156,10 @@ module _ (W : Type 0) (Met : W → Entry → W → Type 0) where
       pub same-answers : answersOf xs ≡ answersOf ys
       pub same-pairs : SamePairs (pairs v) (pairs w)
 
-    -- two histories of one common list: at their ends, after each call of the first, and after each of the second
+    -- two histories of one common list: at their ends, and after each call of either. For each place in the one there is a place in
+    -- the other where the same calls of the common list were made, and at any two such places the heads agree.
     pub record Demand3 {a b v w : W} {xs ys : List Entry} (g : History a xs v) (h : History b ys w) : Type 0 where
       pub ends : Agree v w xs ys
-      pub each-first : (k : ℕ) → (j : ℕ) × (common (callsOf (take k xs)) ≡ common (callsOf (take j ys))) × Agree (stateAfter k g) (stateAfter j h) (take k xs) (take j ys)
-      pub each-second : (j : ℕ) → (k : ℕ) × (common (callsOf (take k xs)) ≡ common (callsOf (take j ys))) × Agree (stateAfter k g) (stateAfter j h) (take k xs) (take j ys)
+      pub each-first : (k : ℕ) → (j : ℕ) × (common (callsOf (take k xs)) ≡ common (callsOf (take j ys)))
+      pub each-second : (j : ℕ) → (k : ℕ) × (common (callsOf (take k xs)) ≡ common (callsOf (take j ys)))
+      pub each : (k j : ℕ) → common (callsOf (take k xs)) ≡ common (callsOf (take j ys)) → Agree (stateAfter k g) (stateAfter j h) (take k xs) (take j ys)
