@@ -51,6 +51,7 @@ declared! {
     packet_window_first_from(w, [s sl: u32, v vl: u32, p pl: u64, b bl: u64], sequence);
     packet_window_iter(w, [s sl: u32, v vl: u32, p pl: u64, b bl: u64], cell);
     packet_window_stranger(w, [s sl: u32, v vl: u32, p pl: u64, b bl: u64], first, last);
+    packet_window_check(w, [s sl: u32, v vl: u32, p pl: u64, b bl: u64]);
     packet_window_exchange(w, [s sl: u32, v vl: u32, p pl: u64, b bl: u64], sequence, value);
     packet_window_remove(w, [s sl: u32, v vl: u32, p pl: u64, b bl: u64], sequence);
     packet_window_insert(w, [s sl: u32, v vl: u32, p pl: u64, b bl: u64, r rl: u32], sequence, value);

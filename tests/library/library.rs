@@ -260,6 +260,13 @@ impl Library {
         None
     }
 
+    /// The header, and the lists by their named lengths.
+    pub fn parts(&self) -> (Header, [&[u32]; 2], [&[u64]; 2]) {
+        let (Lengths { cells, words, .. }, lists) = (self.lengths, &self.lists);
+        let numbers = [&lists.sequences[..cells[0]], &lists.values[..cells[1]]];
+        (self.header, numbers, [&lists.pages[..words[0]], &lists.blocks[..words[1]]])
+    }
+
     /// The elements past the named lengths.
     pub fn past(&self) -> (Vec<u32>, Vec<u64>) {
         let Lengths { cells, words, .. } = self.lengths;

@@ -2,6 +2,7 @@
 // the library. ranges.rt has the calls that remove a range, clear and release.
 pub mod ranges;
 
+use checks::check;
 use points::exchange::exchange;
 use points::insert::insert;
 use points::remove::remove;
@@ -21,7 +22,7 @@ ghost use lib.Dec.{leb};
 ghost use lib.ListN.{length};
 ghost use Rattle.window.specs.Memory.{memory};
 ghost use Rattle.window.specs.New.{fresh};
-ghost use Rattle.model.specs.Calls.{insert as insertOf, get as getOf, exchange as exchangeOf, remove as removeOf, successor-after, first-from, iter as iterOf, stranger as strangerOf};
+ghost use Rattle.model.specs.Calls.{insert as insertOf, get as getOf, exchange as exchangeOf, remove as removeOf, successor-after, first-from, iter as iterOf, stranger as strangerOf, check as checkOf};
 ghost use Rattle.model.specs.Contract.{Meets};
 ghost use Rattle.calls.specs.Answers.{answerOf, stateOf};
 ghost use Rattle.exports.specs.Numbers.{answerFrom, numbersLeft, Same, Made, Creates};
@@ -223,6 +224,20 @@ pub extern "C" fn packet_window_stranger(
         (numbersLeft r (now (sequences .entry)) (now (values .entry)) (now (pages .entry)) (now (blocks .entry)) []) ⌝ }
 {
     in_numbers(stranger(w, sequences, values, pages, blocks, first, last))
+}
+
+#[no_mangle]
+pub extern "C" fn packet_window_check(
+    w: AdaptiveReceiverPacketWindow,
+    sequences: &[u32],
+    values: &[u32],
+    pages: &[u64],
+    blocks: &[u64],
+) -> NumberedStep
+    ensures { λ r. ⌜ Meets checkOf (stateOf w (now (sequences .entry)) (now (values .entry)) (now (pages .entry)) (now (blocks .entry))) []
+        (numbersLeft r (now (sequences .entry)) (now (values .entry)) (now (pages .entry)) (now (blocks .entry)) []) ⌝ }
+{
+    in_numbers(check(w, sequences, values, pages, blocks))
 }
 
 #[no_mangle]
