@@ -60,11 +60,11 @@ pub record FindsInRange (h : AdaptiveReceiverPacketWindow) (ss pages blocks : Li
   pub gives : (vs : List ℕ) → Sound (decode h (memory ss vs pages blocks))
       → foundAnswer r ≡ strangerInRange (decode h (memory ss vs pages blocks)) first count
 
--- the pair that stands at position q, if its sequence is s
+-- the pair at the position of sequence s, if that is its sequence
 pub record GivesPair (h : AdaptiveReceiverPacketWindow) (m : Memory) (s : ℕ) (r : Answer) : Type 0 where
   pub gives : Sound (decode h m) → (e : Pair) → liveAt (decode h m) (position (h .«window_size») s) ≡ some e → e .sequence ≡ s → r ≡ pairAnswer (some e)
 
--- the pair at the first position of a test, if a search found its sequence
+-- the pair at position q, if the search found the sequence there; none if q is no position
 pub record GivesFound (h : AdaptiveReceiverPacketWindow) (m : Memory) (found : Found) (r : Answer) : Type 0 where
   pub gives : Sound (decode h m) → (q : ℕ) → foundAnswer found ≡ cond (ltb q (capacityOf (decode h m))) (sequenceOf (liveAt (decode h m) q)) absent
       → r ≡ cond (ltb q (capacityOf (decode h m))) (pairAnswer (liveAt (decode h m) q)) absent
