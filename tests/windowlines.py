@@ -17,7 +17,15 @@ ORACLE = ROOT / "oracle/target/oracle"
 GENERATE = ROOT / "oracle/target/generate"
 RECORDED = ROOT / "tests/recorded"
 GENERATED = 1050
-STRANGERS = 100000  # at least so many q lines with a pair
+LONG = 10  # lists of 100,000 calls
+# What the answers must show, each in so many lines at least.
+SHOWN = {
+    "strangers": (rb"^q\t\d", 100000),
+    "64 values or more": (rb"^[a-z]\t[^\t\n]+\t(?:6[4-9]|[7-9]\d|\d{3,})\t", 100000),
+    "retired values held": (rb"^[a-z]\t[^\t\n]+\t\d+\t[1-9]", 10000),
+    "pages revived": (rb"^i\t[^\t\n]+(?:\t\d+){5}", 1000),
+}
+WRAPPED = 1000  # ranges taken whose last sequence is below their first
 
 
 def split_at_line_feeds(data):
@@ -108,31 +116,53 @@ def check_failed_writes(data):
         subprocess.run(["sh", "-c", command, str(PROGRAM)], input=data * 50, capture_output=True, timeout=60)
 
 
+def generated_files():
+    """Name and bytes of each generated file, the long lists last."""
+    for seed in range(50001, 50001 + GENERATED):
+        yield seed, generated(seed)
+    for seed in range(70001, 70001 + LONG):
+        options = [[], ["--small"], ["--clean"], ["--small", "--clean"], ["--clean"]][seed % 5]
+        yield seed, subprocess.run([str(GENERATE), str(seed), "100000"] + options, capture_output=True, check=True).stdout
+
+
+def wrapped(data, answers):
+    """The ranges that were taken and whose last sequence is below their first."""
+    lines = zip(split_at_line_feeds(data), split_at_line_feeds(answers))
+    calls = [asked.split() for asked, said in lines if re.match(rb"d\t\d", said)]
+    return sum(int(last) < int(first) for _, first, last in calls)
+
+
 def check_oracle():
-    files = calls = strangers = 0
+    files = calls = 0
+    shown = dict.fromkeys(SHOWN, 0)
+    shown["ranges that wrap"] = 0
     for path in recorded_inputs():
         data = path.read_bytes()
         compare(path.name, run(PROGRAM, data), run(ORACLE, data))
         files += 1
         calls += len(split_at_line_feeds(data))
-    for seed in range(50001, 50001 + GENERATED):
-        data = generated(seed)
+    for seed, data in generated_files():
         answers = run(ORACLE, data)
         compare(f"generate {seed}", run(PROGRAM, data), answers)
         files += 1
         calls += len(split_at_line_feeds(data))
-        strangers += len(re.findall(rb"^q\t\d", answers, re.M))
+        for name, (pattern, _) in SHOWN.items():
+            shown[name] += len(re.findall(pattern, answers, re.M))
+        shown["ranges that wrap"] += wrapped(data, answers)
         if seed % 40 == 0:
             small = data[:4000]
             compare(f"generate {seed}, in small writes", in_small_writes(small, seed), run(ORACLE, small))
-    if strangers < STRANGERS:
-        raise SystemExit(f"only {strangers} q lines with a pair")
+    wanted = {name: least for name, (_, least) in SHOWN.items()} | {"ranges that wrap": WRAPPED}
+    for name, least in wanted.items():
+        if shown[name] < least:
+            raise SystemExit(f"only {shown[name]} lines with {name}")
     odd = 0
     for data in odd_inputs():
         compare(f"odd input {odd}: {data[:80]!r}", run(PROGRAM, data), run(ORACLE, data))
         odd += 1
     check_failed_writes(generated(50001))
-    print(f"{calls} lines of {files} files, {GENERATED} of them generated, {strangers} strangers among them, and {odd} odd inputs")
+    said = ", ".join(f"{count} {name}" for name, count in shown.items())
+    print(f"{calls} lines of {files} files, {GENERATED + LONG} of them generated, and {odd} odd inputs; {said}")
 
 
 if __name__ == "__main__":
