@@ -2,7 +2,8 @@
 //!
 //! `bench [WORD]`: the rows whose name has WORD in it, all without one. Each row is made on the library, on the source as
 //! rustc inlines it, and on the source behind a call boundary; the three take turns in each round, and the median of the
-//! rounds is shown, in nanoseconds a call. What the calls answered is summed, and the sums must be equal.
+//! rounds is shown, in nanoseconds a call. What the calls answered is summed, and the sums must be equal. In the rows marked
+//! `host` the library's insert, remove and release_retired are its host forms.
 
 /// The source's work counters stay out.
 macro_rules! count_work {
@@ -18,7 +19,7 @@ mod subjects;
 mod window;
 
 use std::process::ExitCode;
-use subjects::{Called, Inlined, Library, Window};
+use subjects::{Called, Host, Inlined, Library, Window};
 
 const ROUNDS: usize = 25;
 const CALLS: u32 = 100_000;
@@ -90,6 +91,8 @@ impl Work {
 struct Row {
     name: &'static str,
     size: u32,
+    /// By the host forms.
+    host: bool,
     /// In the window before the first call.
     held: Vec<u32>,
     work: Work,
@@ -179,7 +182,15 @@ fn rows() -> Vec<Row> {
     let mut rows = Vec::new();
     for size in SIZES {
         let every = |step: usize| (0..size).step_by(step).collect::<Vec<u32>>();
-        let mut row = |name, held, work| rows.push(Row { name, size, held, work });
+        for (name, work) in [
+            ("in order, lag 4, host", Work::InOrder { lag: 4 }),
+            ("in order, lag half, host", Work::InOrder { lag: size / 2 }),
+            ("release_retired, none retired, host", Work::NoneRetired),
+            ("show, host", show(size)),
+        ] {
+            rows.push(Row { name, size, host: true, held: vec![], work });
+        }
+        let mut row = |name, held, work| rows.push(Row { name, size, host: false, held, work });
         row("in order, lag 4", vec![], Work::InOrder { lag: 4 });
         row("in order, lag half", vec![], Work::InOrder { lag: size / 2 });
         row("1 % lost", vec![], arrivals(size, 1));
@@ -403,9 +414,8 @@ impl<W: Window> Timed<W> {
 }
 
 /// The row as one line of the table.
-fn measured(row: &Row) -> Result<String, String> {
-    let (mut library, mut inlined, mut called) =
-        (Timed::<Library>::new(row), Timed::<Inlined>::new(row), Timed::<Called>::new(row));
+fn measured<L: Window>(row: &Row) -> Result<String, String> {
+    let (mut library, mut inlined, mut called) = (Timed::<L>::new(row), Timed::<Inlined>::new(row), Timed::<Called>::new(row));
     for _ in 0..ROUNDS {
         let sums = [library.round(row), inlined.round(row), called.round(row)];
         if sums[0] != sums[1] || sums[0] != sums[2] {
@@ -422,7 +432,7 @@ fn main() -> ExitCode {
     println!("| row | window | library | source | ratio | source, called | ratio |");
     println!("|---|---|---|---|---|---|---|");
     for row in rows().iter().filter(|row| row.name.contains(&word)) {
-        match measured(row) {
+        match if row.host { measured::<Host>(row) } else { measured::<Library>(row) } {
             Ok(line) => println!("{line}"),
             Err(why) => {
                 println!("{why}");

@@ -1,5 +1,5 @@
-//! The three windows that are timed: the library, the source inlined, and the source behind a call boundary. An answer is a
-//! number, the same for all three.
+//! The windows that are timed: the library, the library by its host forms, the source inlined, and the source behind a call
+//! boundary. An answer is a number, the same for all.
 
 use crate::declared::*;
 use crate::window::AdaptiveReceiverPacketWindow;
@@ -60,6 +60,14 @@ macro_rules! call {
     ($w:ident, $name:ident, [$($list:ident),*], $($number:expr),*) => {
         unsafe { $name($w.header, $($w.$list.as_ptr().cast_mut(), $w.$list.len(),)* $($number),*) }
     };
+    (&mut $w:ident, $name:ident, [$($list:ident),*], $($number:expr),*) => {
+        unsafe { $name(&mut $w.header, $($w.$list.as_mut_ptr(), $w.$list.len(),)* $($number),*) }
+    };
+}
+
+/// What a visit released.
+fn released(answer: NumberedAnswer) -> u64 {
+    if answer.code == RELEASED { u64::from(answer.first) } else { REFUSED }
 }
 
 impl Window for Library {
@@ -134,7 +142,7 @@ impl Window for Library {
         let w = self;
         let step = call!(w, packet_window_release_retired, [sequences, values, pages, blocks, returned], budget);
         w.header = step.window;
-        if step.answer.code == RELEASED { u64::from(step.answer.first) } else { REFUSED }
+        released(step.answer)
     }
 
     fn clear(&mut self) -> u64 {
@@ -142,6 +150,50 @@ impl Window for Library {
         let step = call!(w, packet_window_clear, [sequences, values, pages, blocks, returned],);
         w.header = step.window;
         if step.answer.code == DONE { CLEARED } else { REFUSED }
+    }
+}
+
+/// The same by the host forms, for the calls that have one.
+pub struct Host(Library);
+
+impl Window for Host {
+    fn new(window_size: u32) -> Self {
+        Self(Library::new(window_size))
+    }
+
+    fn insert(&mut self, sequence: u32, value: u32) -> u64 {
+        let w = &mut self.0;
+        number(call!(&mut w, packet_window_host_insert, [sequences, values, pages, blocks, returned], sequence, value).answer)
+    }
+
+    fn remove(&mut self, sequence: u32) -> u64 {
+        let w = &mut self.0;
+        number(call!(&mut w, packet_window_host_remove, [sequences, values, pages, blocks], sequence).answer)
+    }
+
+    fn get(&self, sequence: u32) -> u64 {
+        self.0.get(sequence)
+    }
+
+    fn successor_after(&self, sequence: u32) -> u64 {
+        self.0.successor_after(sequence)
+    }
+
+    fn each(&self, pair: impl FnMut(u32, u32)) {
+        self.0.each(pair);
+    }
+
+    fn remove_range(&mut self, first: u32, last: u32) -> u64 {
+        self.0.remove_range(first, last)
+    }
+
+    fn release_retired(&mut self, budget: u32) -> u64 {
+        let w = &mut self.0;
+        released(call!(&mut w, packet_window_host_release_retired, [sequences, values, pages, blocks, returned], budget).answer)
+    }
+
+    fn clear(&mut self) -> u64 {
+        self.0.clear()
     }
 }
 

@@ -129,7 +129,7 @@ fn list(seed: u64, calls: u32, counts: &mut Counts) -> Result<(), String> {
             continue;
         };
         let (answer, dropped) = call_and_drops(source.as_mut(), call);
-        library.call(call, &answer, &dropped).map_err(at)?;
+        library.call(call, false, &answer, &dropped).map_err(at)?;
         let mut state = copied(library);
         if !compare(&mut state, counts).map_err(at)? {
             return Err(at("the state is not sound".to_string()));

@@ -3,7 +3,7 @@
 //! `compare FIRST LAST CALLS [--large|--small]`: one list of calls for each seed, with more of stranger's among them. Each call is
 //! made on the source and on the library: the answer, the returned values in order, the header, all block words, and words and
 //! cells in use of the pages that the call may have changed are compared after it, those of all pages after each call on windows
-//! up to 512 and now and then on larger ones.
+//! up to 512 and now and then on larger ones. Half of the calls that have a host form are made by it.
 
 /// The source's work counters stay out.
 macro_rules! count_work {
@@ -13,7 +13,9 @@ macro_rules! count_work {
 #[allow(dead_code)] // the generator uses the rest
 #[path = "../../oracle/src/calls.rs"]
 mod calls;
+#[allow(dead_code)] // the test of check uses the rest
 mod declared;
+#[allow(dead_code)]
 mod library;
 #[path = "../../oracle/src/line.rs"]
 mod line;
@@ -25,7 +27,7 @@ mod value;
 mod window;
 
 use calls::{Generator, Item, Options, Random};
-use library::Library;
+use library::{has_host_form, Library};
 use line::Call;
 use reference::{call_and_drops, fresh, Answer, Window};
 use std::process::ExitCode;
@@ -33,6 +35,7 @@ use std::process::ExitCode;
 #[derive(Default)]
 struct Counts {
     compared: u64,
+    hosted: u64,
     refused: u64,
     strangers: u64,
 }
@@ -58,13 +61,15 @@ impl Both {
     }
 
     fn call(&mut self, random: &mut Random, counts: &mut Counts, call: Call) -> Result<(), String> {
+        let host = has_host_form(call) && random.percent(50);
         if random.percent(2) {
-            self.library.short(random, call)?;
+            self.library.short(random, call, host)?;
             counts.refused += 1;
         }
         let (answer, dropped) = call_and_drops(self.source.as_mut(), call);
-        self.library.call(call, &answer, &dropped)?;
+        self.library.call(call, host, &answer, &dropped)?;
         counts.compared += 1;
+        counts.hosted += u64::from(host);
         counts.strangers += u64::from(matches!(answer, Answer::Pair { .. }));
         let all = self.source.page_count() <= 8 || random.percent(1);
         let pages = self.pages(call, all);
@@ -132,11 +137,11 @@ fn run(arguments: &[String]) -> Result<String, String> {
     for seed in first..=last {
         list(seed, calls as u32, options, &mut counts)?;
     }
-    let Counts { compared, refused, strangers } = counts;
-    if compared == 0 || refused == 0 || strangers == 0 {
-        return Err("no call was compared, or no stranger was found".to_string());
+    let Counts { compared, hosted, refused, strangers } = counts;
+    if hosted == 0 || refused == 0 || strangers == 0 {
+        return Err("no host form was compared, no short list refused, or no stranger found".to_string());
     }
-    Ok(format!("{compared} calls as the source, {refused} with a short list refused 6, {strangers} strangers found"))
+    Ok(format!("{compared} calls as the source, {hosted} by host forms, {refused} with a short list refused 6, {strangers} strangers found"))
 }
 
 fn main() -> ExitCode {

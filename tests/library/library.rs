@@ -56,6 +56,11 @@ fn wanted(answer: &Answer) -> NumberedAnswer {
     }
 }
 
+/// Whether the call has a form with the header lent.
+pub fn has_host_form(call: Call) -> bool {
+    matches!(call, Call::Insert { .. } | Call::Remove(_) | Call::ReleaseRetired(_))
+}
+
 /// The lent memory, with room past the named lengths.
 #[derive(Clone, PartialEq, Eq)]
 struct Lists {
@@ -149,8 +154,11 @@ impl Library {
         }
     }
 
-    /// One step of the library, of any call but new. For iter the step from `cell`.
-    fn step(&mut self, lengths: Lengths, call: Call, cell: u32) -> NumberedStep {
+    /// One step of the library, of any call but new, by the host form if `host` says so. For iter the step from `cell`.
+    fn step(&mut self, lengths: Lengths, call: Call, host: bool, cell: u32) -> NumberedStep {
+        if host {
+            return self.host_step(lengths, call);
+        }
         let w = self.header;
         let Lists { sequences, values, pages, blocks, returned } = &mut self.lists;
         let (sl, vl, pl, bl) = (lengths.cells[0], lengths.cells[1], lengths.words[0], lengths.words[1]);
@@ -175,8 +183,27 @@ impl Library {
         }
     }
 
+    /// The same by the host form: a copy of the header is lent, and comes back as the step's.
+    fn host_step(&mut self, lengths: Lengths, call: Call) -> NumberedStep {
+        let mut window = self.header;
+        let w: *mut Header = &mut window;
+        let Lists { sequences, values, pages, blocks, returned } = &mut self.lists;
+        let (sl, vl, pl, bl) = (lengths.cells[0], lengths.cells[1], lengths.words[0], lengths.words[1]);
+        let (s, v, p, b) = (sequences.as_mut_ptr(), values.as_mut_ptr(), pages.as_mut_ptr(), blocks.as_mut_ptr());
+        let (r, rl) = (returned.as_mut_ptr(), lengths.returned);
+        let NumberedOutcome { answer, count } = unsafe {
+            match call {
+                Call::Insert { sequence, value } => packet_window_host_insert(w, s, sl, v, vl, p, pl, b, bl, r, rl, sequence, value),
+                Call::Remove(sequence) => packet_window_host_remove(w, s, sl, v, vl, p, pl, b, bl, sequence),
+                Call::ReleaseRetired(budget) => packet_window_host_release_retired(w, s, sl, v, vl, p, pl, b, bl, r, rl, budget),
+                _ => unreachable!("no host form"),
+            }
+        };
+        NumberedStep { window, answer, count }
+    }
+
     /// With one list one short: refusal 6, and nothing is written.
-    pub fn short(&mut self, random: &mut Random, call: Call) -> Result<(), String> {
+    pub fn short(&mut self, random: &mut Random, call: Call, host: bool) -> Result<(), String> {
         let mut lengths = self.lengths;
         let with_list = matches!(
             call,
@@ -188,7 +215,7 @@ impl Library {
             _ => lengths.returned -= 1,
         }
         let before = self.lists.clone();
-        let step = self.step(lengths, call, 0);
+        let step = self.step(lengths, call, host, 0);
         if step.answer != numbered(REFUSED, SHORT_MEMORY) || step.count != 0 || step.window != self.header || self.lists != before {
             return Err(format!("with a short list: {:?}", step.answer));
         }
@@ -196,12 +223,12 @@ impl Library {
     }
 
     /// The call on both, compared with what the source answered and dropped.
-    pub fn call(&mut self, call: Call, answer: &Answer, dropped: &[u32]) -> Result<(), String> {
+    pub fn call(&mut self, call: Call, host: bool, answer: &Answer, dropped: &[u32]) -> Result<(), String> {
         if let Answer::Pairs(pairs) = answer {
             return self.pairs(call, pairs);
         }
         let before = self.lists.returned.clone();
-        let step = self.step(self.lengths, call, 0);
+        let step = self.step(self.lengths, call, host, 0);
         self.header = step.window;
         let count = step.count as usize;
         if step.answer != wanted(answer) {
@@ -220,7 +247,7 @@ impl Library {
         let before = (self.header, self.lists.clone());
         let (mut cell, mut found) = (0, Vec::new());
         loop {
-            let step = self.step(self.lengths, call, cell);
+            let step = self.step(self.lengths, call, false, cell);
             match step.answer {
                 NumberedAnswer { code: PAIR, first, second, third } if third > cell => {
                     found.push((first, second));

@@ -57,7 +57,7 @@ fn numbered(code: u32, first: u32, second: u32, third: u32) -> NumberedAnswer
 }
 
 // An answer in numbers.
-fn numbers(answer: Answer) -> NumberedAnswer
+pub fn numbers(answer: Answer) -> NumberedAnswer
     ensures { λ r. ⌜ answerFrom r ≡ answerOf answer ⌝ }
 {
     match answer {

@@ -1,0 +1,2 @@
+-- What a call with a lent header leaves.
+pub mod Lent

@@ -1,0 +1,2 @@
+-- Laws over plain variables that the proofs cite.
+pub mod Carrying
