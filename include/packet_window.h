@@ -1,0 +1,435 @@
+/*
+ * The adaptive receiver packet window: the C interface of libpacket_window.a, for the System V ABI on x86-64. C99 or C++11.
+ *
+ * The window holds packets by sequence number. A value is a 32-bit number of the caller's choice, here the number of a packet store.
+ * A sequence's position is its remainder by the capacity; at most one value is live at a position.
+ *
+ * MEMORY. The library allocates nothing, keeps no pointer and has no variables of its own; it needs memcpy and memset. A window is a
+ * header and four lists that the caller lends to each call:
+ *
+ *     list         element     length for a window_size                       one element
+ *     sequences    uint32_t    PACKET_WINDOW_CAPACITY(window_size)            of a cell, the sequence
+ *     values       uint32_t    PACKET_WINDOW_CAPACITY(window_size)            of a cell, the value
+ *     pages        uint64_t    PACKET_WINDOW_PAGE_WORDS(window_size)          three words a page: kind, occupied, filled
+ *     blocks       uint64_t    PACKET_WINDOW_BLOCK_WORDS(window_size)         three words a block: nonempty, retired, live
+ *     returned     uint32_t    PACKET_WINDOW_RETURN_PLACES, any window        a value handed back; for the calls that name it
+ *
+ * A list is two arguments, its start and its length in elements. A list may be longer than named; a shorter one is refused. What lies
+ * past the named lengths is never written. A start is not NULL and is aligned for its element. The lists of one call do not overlap
+ * each other. The library cannot test these: it trusts the start and the length that it is given.
+ *
+ * The header and the first four lists are one window. From packet_window_new on, the calls alone write them, and each call gets them as
+ * the last call left them. Between calls they may be moved, all together, since they hold no address. All memory stays the caller's.
+ * Before it is used for anything else, take the values back: packet_window_clear, then packet_window_release_retired until retired_held
+ * is 0. The return list serves one call; between calls it may be used for anything, and several windows may share it.
+ *
+ * Calls on different windows may run at the same time. Calls on one window may not, save those that write nothing.
+ *
+ * HEADER. It goes in by value and comes back by value, in packet_window_step. Always keep the one that came back, whatever the answer:
+ *
+ *     step = packet_window_insert(header, sequences, CAPACITY, values, CAPACITY, pages, PAGE_WORDS, blocks, BLOCK_WORDS,
+ *                                 returned, PACKET_WINDOW_RETURN_PLACES, sequence, store);
+ *     header = step.window;
+ *
+ * Its counts may be read (len, retired_held, promotions, demotions); no field is to be written by the caller. The host forms of insert,
+ * remove and release_retired, at the end, take the caller's header by its address instead and update it in place.
+ *
+ * VALUES HANDED BACK. The window gives each accepted value back exactly once:
+ *     - in answer.first, when packet_window_insert answers PACKET_WINDOW_REPLACED, and when packet_window_exchange or
+ *       packet_window_remove answers PACKET_WINDOW_FOUND;
+ *     - in the first `count` places of the return list. Look there after each call that takes one, also after a refusal.
+ * Accepted are the values of packet_window_insert unless it is refused, and of packet_window_exchange if it answers
+ * PACKET_WINDOW_FOUND. A value that is not accepted stays with the caller.
+ *
+ * RETIRED VALUES. After packet_window_remove_range, packet_window_clear and packet_window_clear_bounded no call finds the values that they
+ * removed, but some may still be held: these are retired, and retired_held counts them. They come back by
+ * packet_window_release_retired, by a later remove_range, clear or clear_bounded, or by an insert into their page.
+ *
+ * REFUSALS leave header and lists as they came and return nothing, save PACKET_WINDOW_REFUSED_UNSOUND. They are tested in the order in
+ * which each call below names them.
+ *
+ * UNSOUND STATES. A state that came from packet_window_new and from calls alone is sound: each call keeps it so. If other code, or a
+ * fault of the memory, wrote the header or the lists, the state may be unsound. packet_window_check says whether it is; it cannot see a
+ * change that leaves a sound state, such as another value in a cell. On an unsound state every other call still ends, stays inside the
+ * lists, writes nothing past their named lengths and nothing past `count` in the return list, and refuses 5, 6 and 8 as always. Beyond
+ * that its answer (4 included), the header and the lists are free. It may be refused 7, with a count of values that it has handed back.
+ */
+#ifndef PACKET_WINDOW_H
+#define PACKET_WINDOW_H
+
+#include <stddef.h>
+#include <stdint.h>
+
+#ifdef __cplusplus
+extern "C" {
+#endif
+
+/* ---- constants and lengths */
+
+/* Positions of a page. */
+#define PACKET_WINDOW_PAGE_SLOTS 64u
+
+/* The largest budget of packet_window_release_retired, and number of packet_window_clear_bounded. */
+#define PACKET_WINDOW_MAX_RETIRED_RELEASED_PER_VISIT 256u
+
+/* The least length of a return list. */
+#define PACKET_WINDOW_RETURN_PLACES 384u
+
+/*
+ * Lengths for a window_size of 1 to 65536; packet_window_new refuses any other. With a constant argument they are constant expressions:
+ * for #if, and for arrays, also static ones. The argument is evaluated more than once.
+ */
+
+/* Positions: window_size, at least 64, raised to a power of two. The length of sequences and of values. */
+#define PACKET_WINDOW_CAPACITY(window_size)                                                                                             \
+    ((window_size) <= 64      ? 64u                                                                                                     \
+     : (window_size) <= 128   ? 128u                                                                                                    \
+     : (window_size) <= 256   ? 256u                                                                                                    \
+     : (window_size) <= 512   ? 512u                                                                                                    \
+     : (window_size) <= 1024  ? 1024u                                                                                                   \
+     : (window_size) <= 2048  ? 2048u                                                                                                   \
+     : (window_size) <= 4096  ? 4096u                                                                                                   \
+     : (window_size) <= 8192  ? 8192u                                                                                                   \
+     : (window_size) <= 16384 ? 16384u                                                                                                  \
+     : (window_size) <= 32768 ? 32768u                                                                                                  \
+                              : 65536u)
+
+/* Pages: 64 positions each. At most 1024. */
+#define PACKET_WINDOW_PAGES(window_size) (PACKET_WINDOW_CAPACITY(window_size) / PACKET_WINDOW_PAGE_SLOTS)
+
+/* Blocks: 64 pages each, the last perhaps fewer. At most 16. */
+#define PACKET_WINDOW_BLOCKS(window_size) ((PACKET_WINDOW_PAGES(window_size) + 63u) / 64u)
+
+/* The length of pages, and that of blocks. */
+#define PACKET_WINDOW_PAGE_WORDS(window_size) (3u * PACKET_WINDOW_PAGES(window_size))
+#define PACKET_WINDOW_BLOCK_WORDS(window_size) (3u * PACKET_WINDOW_BLOCKS(window_size))
+
+/* ---- header */
+
+typedef struct packet_window_header {
+    /* As given to packet_window_new. */
+    uint32_t window_size;
+    uint32_t n;
+    uint32_t demote_at;
+    /* Live values. */
+    uint32_t len;
+    /* Retired values still held. */
+    uint32_t retired_held;
+    /* The page that packet_window_release_retired inspects next. */
+    uint32_t release_cursor;
+    /* Bit b: a page of block b holds a value. */
+    uint64_t nonempty_summary;
+    /* Bit b: every page of block b counts as retired. */
+    uint64_t retired_blocks;
+    /* Pages that became dense, and that became sparse again; modulo 2^64. */
+    uint64_t promotions;
+    uint64_t demotions;
+} packet_window_header;
+
+/* ---- answers */
+
+/* packet_window_answer.code. The numbers first, second and third that a code does not name here carry nothing. */
+enum packet_window_code {
+    /* Nothing to tell. */
+    PACKET_WINDOW_DONE = 0,
+    /* Inserted at a free position. */
+    PACKET_WINDOW_NEW = 1,
+    /* Inserted in place of the same sequence's value. first: the old value, handed back. */
+    PACKET_WINDOW_REPLACED = 2,
+    /* None there. */
+    PACKET_WINDOW_ABSENT = 3,
+    /* first: a value, a sequence or a number, as the call says. */
+    PACKET_WINDOW_FOUND = 4,
+    /* first: a sequence; second: its value; third: for packet_window_iter, the cell to go on from. */
+    PACKET_WINDOW_PAIR = 5,
+    /* first: values handed back; second: units used. */
+    PACKET_WINDOW_RELEASED = 6,
+    /* first: an enum packet_window_refusal. */
+    PACKET_WINDOW_REFUSED = 7
+};
+
+enum packet_window_refusal {
+    /* packet_window_new: window_size is not within 1 to 65536. */
+    PACKET_WINDOW_REFUSED_WINDOW_SIZE = 1,
+    /* packet_window_new: n is not within 1 to 63. */
+    PACKET_WINDOW_REFUSED_SPARSE_CELLS = 2,
+    /* packet_window_new: demote_at is above n. */
+    PACKET_WINDOW_REFUSED_DEMOTE_AT = 3,
+    /* packet_window_insert: another sequence holds the position. */
+    PACKET_WINDOW_REFUSED_OCCUPIED = 4,
+    /* packet_window_remove_range, packet_window_stranger: the range counts more than window_size sequences. */
+    PACKET_WINDOW_REFUSED_RANGE_COUNT = 5,
+    /* A list is shorter than named, or the header is outside the limits of 1 to 3, as that of a refused packet_window_new is. */
+    PACKET_WINDOW_REFUSED_SHORT_MEMORY = 6,
+    /* The state is not sound. packet_window_check: exactly then. Any other call: perhaps, and the count may then be above 0. */
+    PACKET_WINDOW_REFUSED_UNSOUND = 7,
+    /* packet_window_release_retired, packet_window_clear_bounded: the number is above 256. */
+    PACKET_WINDOW_REFUSED_BUDGET = 8
+};
+
+typedef struct packet_window_answer {
+    uint32_t code;
+    uint32_t first;
+    uint32_t second;
+    uint32_t third;
+} packet_window_answer;
+
+/* What a call gives back: the header to keep, the answer, and how many places of the return list it has written, from the first. */
+typedef struct packet_window_step {
+    packet_window_header window;
+    packet_window_answer answer;
+    uint32_t count;
+} packet_window_step;
+
+/* What a host form gives back: a step without the header, which it has updated. */
+typedef struct packet_window_outcome {
+    packet_window_answer answer;
+    uint32_t count;
+} packet_window_outcome;
+
+/* ---- a new window */
+
+/*
+ * An empty window over lists of any content. n: the cells of a sparse page, 1 to 63; a page with more values becomes dense. demote_at:
+ * a dense page that a removal leaves with this many values or fewer becomes sparse again; at most n, and 0 for never. Neither changes
+ * what insert, get, exchange, remove, successor_after, first_from and remove_range answer.
+ * Writes pages and blocks. What an earlier window in the same lists held is forgotten and not handed back.
+ * Answers: PACKET_WINDOW_DONE, with the new header. Refused: 1, 2, 3, 6; the header that comes back is then all zero, and every call
+ * with it is refused 6. The lists stay as they were, and an earlier window in them goes on with its own header.
+ */
+packet_window_step packet_window_new(
+    uint32_t *sequences, size_t sequences_length, uint32_t *values, size_t values_length,
+    uint64_t *pages, size_t pages_length, uint64_t *blocks, size_t blocks_length,
+    uint32_t window_size, uint32_t n, uint32_t demote_at);
+
+/* ---- one sequence */
+
+/*
+ * Puts a value at a sequence. If the page of its position is retired, the retired values of that page are handed back first, in the
+ * return list.
+ * Writes all lists.
+ * Answers: PACKET_WINDOW_NEW, or PACKET_WINDOW_REPLACED with the old value; count values in the return list. Refused: 6, 4; the value
+ * then stays with the caller.
+ */
+packet_window_step packet_window_insert(
+    packet_window_header w,
+    uint32_t *sequences, size_t sequences_length, uint32_t *values, size_t values_length,
+    uint64_t *pages, size_t pages_length, uint64_t *blocks, size_t blocks_length,
+    uint32_t *returned, size_t returned_length,
+    uint32_t sequence, uint32_t value);
+
+/*
+ * The value of a sequence. It stays in the window.
+ * Writes nothing.
+ * Answers: PACKET_WINDOW_FOUND with the value, or PACKET_WINDOW_ABSENT. Refused: 6.
+ */
+packet_window_step packet_window_get(
+    packet_window_header w,
+    const uint32_t *sequences, size_t sequences_length, const uint32_t *values, size_t values_length,
+    const uint64_t *pages, size_t pages_length, const uint64_t *blocks, size_t blocks_length,
+    uint32_t sequence);
+
+/*
+ * Puts a value in place of the one that the sequence has.
+ * Writes values.
+ * Answers: PACKET_WINDOW_FOUND with the old value, handed back; or PACKET_WINDOW_ABSENT, and the new value stays with the caller.
+ * Refused: 6.
+ */
+packet_window_step packet_window_exchange(
+    packet_window_header w,
+    const uint32_t *sequences, size_t sequences_length, uint32_t *values, size_t values_length,
+    const uint64_t *pages, size_t pages_length, const uint64_t *blocks, size_t blocks_length,
+    uint32_t sequence, uint32_t value);
+
+/*
+ * Removes the value of a sequence.
+ * Writes sequences, values, pages, blocks.
+ * Answers: PACKET_WINDOW_FOUND with the value, handed back; or PACKET_WINDOW_ABSENT. Refused: 6.
+ */
+packet_window_step packet_window_remove(
+    packet_window_header w,
+    uint32_t *sequences, size_t sequences_length, uint32_t *values, size_t values_length,
+    uint64_t *pages, size_t pages_length, uint64_t *blocks, size_t blocks_length,
+    uint32_t sequence);
+
+/* ---- searches */
+
+/*
+ * The first live sequence by position, from the position after the given sequence's, round the capacity, to its own last of all. The
+ * sequence found may lie outside the caller's range, since the search goes by position.
+ * Writes nothing.
+ * Answers: PACKET_WINDOW_FOUND with the sequence, or PACKET_WINDOW_ABSENT if none is live. Refused: 6.
+ */
+packet_window_step packet_window_successor_after(
+    packet_window_header w,
+    const uint32_t *sequences, size_t sequences_length, const uint32_t *values, size_t values_length,
+    const uint64_t *pages, size_t pages_length, const uint64_t *blocks, size_t blocks_length,
+    uint32_t sequence);
+
+/* The same, from the given sequence's own position. */
+packet_window_step packet_window_first_from(
+    packet_window_header w,
+    const uint32_t *sequences, size_t sequences_length, const uint32_t *values, size_t values_length,
+    const uint64_t *pages, size_t pages_length, const uint64_t *blocks, size_t blocks_length,
+    uint32_t sequence);
+
+/*
+ * One step over the live pairs, in the order of pages, then of cells: the next from a cell on. Begin with cell 0 and go on with the
+ * cell that the answer carries, with no call between that writes.
+ * Writes nothing.
+ * Answers: PACKET_WINDOW_PAIR with sequence, value and the cell to go on from; or PACKET_WINDOW_DONE, also from a cell of the capacity
+ * or more. Refused: 6.
+ */
+packet_window_step packet_window_iter(
+    packet_window_header w,
+    const uint32_t *sequences, size_t sequences_length, const uint32_t *values, size_t values_length,
+    const uint64_t *pages, size_t pages_length, const uint64_t *blocks, size_t blocks_length,
+    uint32_t cell);
+
+/* ---- ranges, release and clear */
+
+/*
+ * Removes the values at the positions of first to last, whatever their sequences are. The range counts
+ * ((last - first) modulo 2^32, lowest 31 bits) + 1 positions, in a row from first's, round the capacity. Then releases with a budget of
+ * 256. What is not handed back by this call stays retired.
+ * Writes all lists.
+ * Answers: PACKET_WINDOW_FOUND with the number of values that were live; count values in the return list, more or fewer than these.
+ * Refused: 6, 5.
+ */
+packet_window_step packet_window_remove_range(
+    packet_window_header w,
+    uint32_t *sequences, size_t sequences_length, uint32_t *values, size_t values_length,
+    uint64_t *pages, size_t pages_length, uint64_t *blocks, size_t blocks_length,
+    uint32_t *returned, size_t returned_length,
+    uint32_t first, uint32_t last);
+
+/*
+ * Hands retired values back, within a budget of 0 to 256 units: one unit for each page inspected and one for each value. Calls whose
+ * budgets' halves, rounded down, add up to at least retired_held leave none retired, if no other call comes between.
+ * Writes pages, blocks, returned.
+ * Answers: PACKET_WINDOW_RELEASED with the number of values and the units used; count is that number of values. Refused: 6, 8.
+ */
+packet_window_step packet_window_release_retired(
+    packet_window_header w,
+    const uint32_t *sequences, size_t sequences_length, const uint32_t *values, size_t values_length,
+    uint64_t *pages, size_t pages_length, uint64_t *blocks, size_t blocks_length,
+    uint32_t *returned, size_t returned_length,
+    uint32_t budget);
+
+/*
+ * Retires all values, then releases with a budget of 256. What is not handed back by this call stays retired.
+ * Writes pages, blocks, returned.
+ * Answers: PACKET_WINDOW_DONE; count values in the return list. Refused: 6.
+ */
+packet_window_step packet_window_clear(
+    packet_window_header w,
+    const uint32_t *sequences, size_t sequences_length, const uint32_t *values, size_t values_length,
+    uint64_t *pages, size_t pages_length, uint64_t *blocks, size_t blocks_length,
+    uint32_t *returned, size_t returned_length);
+
+/*
+ * Retires all values, then hands back as many as are held, at most `number`, which is 0 to 256. The rest stays retired.
+ * Writes pages, blocks, returned.
+ * Answers: PACKET_WINDOW_FOUND with how many were handed back; count is the same. Refused: 6, 8.
+ */
+packet_window_step packet_window_clear_bounded(
+    packet_window_header w,
+    const uint32_t *sequences, size_t sequences_length, const uint32_t *values, size_t values_length,
+    uint64_t *pages, size_t pages_length, uint64_t *blocks, size_t blocks_length,
+    uint32_t *returned, size_t returned_length,
+    uint32_t number);
+
+/* ---- audits */
+
+/*
+ * A live pair at a position of first to last that is none of the range's sequences, or whose sequence has its top bit set.
+ * Writes nothing.
+ * Answers: PACKET_WINDOW_PAIR with sequence and value, or PACKET_WINDOW_ABSENT exactly if there is none. Refused: 6, 5.
+ */
+packet_window_step packet_window_stranger(
+    packet_window_header w,
+    const uint32_t *sequences, size_t sequences_length, const uint32_t *values, size_t values_length,
+    const uint64_t *pages, size_t pages_length, const uint64_t *blocks, size_t blocks_length,
+    uint32_t first, uint32_t last);
+
+/*
+ * Whether the state is sound. It looks at every page.
+ * Writes nothing.
+ * Answers: PACKET_WINDOW_DONE if it is. Refused: 6; 7 exactly if it is not.
+ */
+packet_window_step packet_window_check(
+    packet_window_header w,
+    const uint32_t *sequences, size_t sequences_length, const uint32_t *values, size_t values_length,
+    const uint64_t *pages, size_t pages_length, const uint64_t *blocks, size_t blocks_length);
+
+/*
+ * ---- host forms
+ *
+ * Each is the call of its name, with the same answers, refusals and writes, but the caller's header is lent by its address and updated
+ * in place. A refusal leaves it as it was. The address is not NULL and is aligned; the header does not overlap a list.
+ */
+
+packet_window_outcome packet_window_host_insert(
+    packet_window_header *w,
+    uint32_t *sequences, size_t sequences_length, uint32_t *values, size_t values_length,
+    uint64_t *pages, size_t pages_length, uint64_t *blocks, size_t blocks_length,
+    uint32_t *returned, size_t returned_length,
+    uint32_t sequence, uint32_t value);
+
+packet_window_outcome packet_window_host_remove(
+    packet_window_header *w,
+    uint32_t *sequences, size_t sequences_length, uint32_t *values, size_t values_length,
+    uint64_t *pages, size_t pages_length, uint64_t *blocks, size_t blocks_length,
+    uint32_t sequence);
+
+packet_window_outcome packet_window_host_release_retired(
+    packet_window_header *w,
+    const uint32_t *sequences, size_t sequences_length, const uint32_t *values, size_t values_length,
+    uint64_t *pages, size_t pages_length, uint64_t *blocks, size_t blocks_length,
+    uint32_t *returned, size_t returned_length,
+    uint32_t budget);
+
+/* ---- the layout that the library has; a compiler that lays the structs out otherwise stops here */
+
+#ifdef __cplusplus
+#define PACKET_WINDOW_HOLDS(name, condition) static_assert(condition, #name)
+#else
+#define PACKET_WINDOW_HOLDS(name, condition) typedef char packet_window_holds_##name[(condition) ? 1 : -1]
+#endif
+#define PACKET_WINDOW_AT(type, field, offset) PACKET_WINDOW_HOLDS(type##_##field, offsetof(packet_window_##type, field) == (offset))
+#define PACKET_WINDOW_SIZE(type, size) PACKET_WINDOW_HOLDS(type##_size, sizeof(packet_window_##type) == (size))
+
+PACKET_WINDOW_HOLDS(pointers, sizeof(void *) == 8 && sizeof(size_t) == 8);
+PACKET_WINDOW_AT(header, window_size, 0);
+PACKET_WINDOW_AT(header, n, 4);
+PACKET_WINDOW_AT(header, demote_at, 8);
+PACKET_WINDOW_AT(header, len, 12);
+PACKET_WINDOW_AT(header, retired_held, 16);
+PACKET_WINDOW_AT(header, release_cursor, 20);
+PACKET_WINDOW_AT(header, nonempty_summary, 24);
+PACKET_WINDOW_AT(header, retired_blocks, 32);
+PACKET_WINDOW_AT(header, promotions, 40);
+PACKET_WINDOW_AT(header, demotions, 48);
+PACKET_WINDOW_SIZE(header, 56);
+PACKET_WINDOW_AT(answer, code, 0);
+PACKET_WINDOW_AT(answer, first, 4);
+PACKET_WINDOW_AT(answer, second, 8);
+PACKET_WINDOW_AT(answer, third, 12);
+PACKET_WINDOW_SIZE(answer, 16);
+PACKET_WINDOW_AT(step, window, 0);
+PACKET_WINDOW_AT(step, answer, 56);
+PACKET_WINDOW_AT(step, count, 72);
+PACKET_WINDOW_SIZE(step, 80);
+PACKET_WINDOW_AT(outcome, answer, 0);
+PACKET_WINDOW_AT(outcome, count, 16);
+PACKET_WINDOW_SIZE(outcome, 20);
+
+#undef PACKET_WINDOW_AT
+#undef PACKET_WINDOW_SIZE
+#undef PACKET_WINDOW_HOLDS
+
+#ifdef __cplusplus
+}
+#endif
+
+#endif
