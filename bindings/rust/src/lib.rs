@@ -1,0 +1,71 @@
+//! Safe interface of the adaptive receiver packet window, a static library that is proved to meet its contracts.
+//!
+//! A [`Window`] holds packets by sequence number; a value is a number of the caller's choice, such as that of a packet store. It works
+//! in lists that the caller lends ([`Memory`]) and gives each accepted value back exactly once: as an old value from
+//! [`Window::insert`] and [`Window::exchange`], as the value from [`Window::remove`], or among the `returned` values of an
+//! [`Outcome`].
+//!
+//! ```
+//! use packet_window::{Inserted, OwnedMemory, Window};
+//!
+//! let mut memory = OwnedMemory::new(512);
+//! let mut window = Window::new(memory.lend(), 512, 8, 4)?;
+//! assert_eq!(window.insert(7, 70).answer, Ok(Inserted::New));
+//! assert_eq!(window.get(7), Ok(Some(70)));
+//! let outcome = window.remove_range(0, 63);
+//! assert_eq!(outcome.answer, Ok(1));
+//! for store in outcome.returned {
+//!     assert_eq!(*store, 70); // the store is free again
+//! }
+//! # Ok::<(), packet_window::Refusal>(())
+//! ```
+//!
+//! With fixed memory, and no allocator (without the feature `alloc` the crate needs none):
+//!
+//! ```
+//! use packet_window::{block_words, capacity, page_words, Memory, Window, RETURN_PLACES};
+//!
+//! const SIZE: u32 = 1000;
+//! let mut sequences = [0; capacity(SIZE)];
+//! let mut values = [0; capacity(SIZE)];
+//! let mut pages = [0; page_words(SIZE)];
+//! let mut blocks = [0; block_words(SIZE)];
+//! let mut returned = [0; RETURN_PLACES];
+//! let memory = Memory {
+//!     sequences: &mut sequences,
+//!     values: &mut values,
+//!     pages: &mut pages,
+//!     blocks: &mut blocks,
+//!     returned: &mut returned,
+//! };
+//! let window = Window::new(memory, SIZE, 8, 4)?;
+//! assert!(window.is_empty());
+//! # Ok::<(), packet_window::Refusal>(())
+//! ```
+//!
+//! # Linking
+//!
+//! The build script links `libpacket_window.a`, which `./library` makes, from the folder that PACKET_WINDOW_LIBRARY names, else from
+//! target of the repository. Without cargo:
+//!
+//! ```text
+//! rustc --edition 2021 --crate-type rlib --crate-name packet_window -L native=target -l static=packet_window bindings/rust/src/lib.rs
+//! ```
+
+#![no_std]
+#![deny(missing_docs)]
+
+#[cfg(feature = "alloc")]
+extern crate alloc;
+
+mod answers;
+mod memory;
+mod raw;
+mod window;
+
+pub use answers::{Inserted, Outcome, Refusal, Released};
+#[cfg(feature = "alloc")]
+pub use memory::OwnedMemory;
+pub use memory::{block_words, capacity, page_words, Memory, MAX_RETIRED_RELEASED_PER_VISIT, PAGE_SLOTS, RETURN_PLACES};
+pub use raw::Header;
+pub use window::{Iter, Window};

@@ -1,0 +1,269 @@
+//! The window: its header, the memory that it is lent, and the calls.
+
+use crate::answers::{self, Inserted, Outcome, Refusal, Released};
+use crate::memory::{capacity, Memory, RETURN_PLACES};
+use crate::raw::{self, Header, NumberedAnswer, NumberedStep};
+use core::iter::FusedIterator;
+
+/// A packet window over lent memory, which is the window's alone while it lives. Dropping a window hands no value back: first
+/// [`Window::clear`] it, then [`Window::release_retired`] until [`Window::retired_held`] is 0.
+///
+/// Any call may answer [`Refusal::Unsound`] if something other than the window wrote its memory, and no call does otherwise.
+#[derive(Debug)]
+pub struct Window<'m> {
+    header: Header,
+    memory: Memory<'m>,
+}
+
+/// A call that writes nothing: its answer.
+macro_rules! reading {
+    ($window:expr, $call:ident($($argument:expr),*)) => {{
+        let Window { header, memory: Memory { sequences: s, values: v, pages: p, blocks: b, .. } } = $window;
+        // SAFETY: each start and length is a slice's, which is borrowed here and which the call does not write.
+        let step: NumberedStep = unsafe {
+            raw::$call(*header, s.as_ptr(), s.len(), v.as_ptr(), v.len(), p.as_ptr(), p.len(), b.as_ptr(), b.len() $(, $argument)*)
+        };
+        step.answer
+    }};
+}
+
+/// A call that writes: the header that it gives back is kept.
+macro_rules! writing {
+    ($window:expr, $call:ident($($argument:expr),*)) => {{
+        let Window { header, memory: Memory { sequences: s, values: v, pages: p, blocks: b, .. } } = $window;
+        // SAFETY: each start and length is a slice's, which is borrowed here exclusively.
+        let step: NumberedStep = unsafe {
+            raw::$call(
+                *header, s.as_mut_ptr(), s.len(), v.as_mut_ptr(), v.len(), p.as_mut_ptr(), p.len(), b.as_mut_ptr(), b.len()
+                $(, $argument)*
+            )
+        };
+        *header = step.window;
+        step
+    }};
+}
+
+/// A call that writes and takes the return list.
+macro_rules! returning {
+    ($window:expr, $call:ident($($argument:expr),*)) => {{
+        let (start, places) = ($window.memory.returned.as_mut_ptr(), $window.memory.returned.len());
+        writing!($window, $call(start, places $(, $argument)*))
+    }};
+}
+
+impl<'m> Window<'m> {
+    /// An empty window. `n`: the cells of a sparse page, 1 to 63; a page with more values becomes dense. `demote_at`: a dense page that
+    /// a removal leaves with this many values or fewer becomes sparse again; at most `n`, and 0 for never. Neither changes what `insert`,
+    /// `get`, `exchange`, `remove`, `successor_after`, `first_from` and `remove_range` answer.
+    ///
+    /// Refused, in this order: `WindowSize`, `SparseCells`, `DemoteAt`, `ShortMemory`. The memory then stays as it was.
+    pub fn new(memory: Memory<'m>, window_size: u32, n: u32, demote_at: u32) -> Result<Self, Refusal> {
+        let Memory { sequences: s, values: v, pages: p, blocks: b, returned } = memory;
+        // The library's new takes no return list: a short one is refused as short block words are.
+        let block_words = if returned.len() < RETURN_PLACES { 0 } else { b.len() };
+        // SAFETY: each start and length is a slice's or less, which is borrowed here exclusively.
+        let step = unsafe {
+            raw::packet_window_new(
+                s.as_mut_ptr(), s.len(), v.as_mut_ptr(), v.len(), p.as_mut_ptr(), p.len(), b.as_mut_ptr(), block_words,
+                window_size, n, demote_at,
+            )
+        };
+        answers::done(step.answer)?;
+        let memory = Memory { sequences: s, values: v, pages: p, blocks: b, returned };
+        Ok(Self { header: step.window, memory })
+    }
+
+    /// A window again from the parts that [`Window::into_parts`] gave, which [`Window::check`] must find sound. The header must be the
+    /// last that the window in this memory had: with an older one, values may be handed back twice or never.
+    ///
+    /// Refused: `ShortMemory`, also for a header that no `new` gave; `Unsound`.
+    pub fn from_parts(header: Header, memory: Memory<'m>) -> Result<Self, Refusal> {
+        if memory.returned.len() < RETURN_PLACES {
+            return Err(Refusal::ShortMemory);
+        }
+        let window = Self { header, memory };
+        window.check()?;
+        Ok(window)
+    }
+
+    /// The header and the memory, which hold the window's values until [`Window::from_parts`] makes a window of them.
+    pub fn into_parts(self) -> (Header, Memory<'m>) {
+        (self.header, self.memory)
+    }
+
+    /// Puts a value at a sequence. If its page is retired, the retired values of that page are returned first.
+    ///
+    /// Refused: `Occupied`, and the value stays with the caller.
+    pub fn insert(&mut self, sequence: u32, value: u32) -> Outcome<'_, Inserted> {
+        let step = returning!(self, packet_window_insert(sequence, value));
+        self.outcome(step, answers::inserted)
+    }
+
+    /// The value of a sequence.
+    pub fn get(&self, sequence: u32) -> Result<Option<u32>, Refusal> {
+        answers::found(reading!(self, packet_window_get(sequence)))
+    }
+
+    /// Puts a value in place of the one that the sequence has, and hands that back; or none, and the new value stays with the caller.
+    pub fn exchange(&mut self, sequence: u32, value: u32) -> Result<Option<u32>, Refusal> {
+        answers::found(writing!(self, packet_window_exchange(sequence, value)).answer)
+    }
+
+    /// Removes the value of a sequence and hands it back.
+    pub fn remove(&mut self, sequence: u32) -> Result<Option<u32>, Refusal> {
+        answers::found(writing!(self, packet_window_remove(sequence)).answer)
+    }
+
+    /// The first live sequence by position, from the position after the given sequence's, round the capacity, to its own last of all.
+    pub fn successor_after(&self, sequence: u32) -> Result<Option<u32>, Refusal> {
+        answers::found(reading!(self, packet_window_successor_after(sequence)))
+    }
+
+    /// The first live sequence by position, from the given sequence's own, round the capacity.
+    pub fn first_from(&self, sequence: u32) -> Result<Option<u32>, Refusal> {
+        answers::found(reading!(self, packet_window_first_from(sequence)))
+    }
+
+    /// Removes the values at the positions of first to last, whatever their sequences are, and releases with a budget of 256. Answers
+    /// how many of them were live. What is not returned by this call stays retired.
+    ///
+    /// Refused: `RangeCount`.
+    pub fn remove_range(&mut self, first: u32, last: u32) -> Outcome<'_, u32> {
+        let step = returning!(self, packet_window_remove_range(first, last));
+        self.outcome(step, answers::number)
+    }
+
+    /// Hands retired values back, within a budget of 0 to 256 units: one for each page inspected and one for each value.
+    ///
+    /// Refused: `Budget`.
+    pub fn release_retired(&mut self, budget: u32) -> Outcome<'_, Released> {
+        let step = returning!(self, packet_window_release_retired(budget));
+        self.outcome(step, answers::released)
+    }
+
+    /// Retires all values and releases with a budget of 256. What is not returned by this call stays retired.
+    pub fn clear(&mut self) -> Outcome<'_, ()> {
+        let step = returning!(self, packet_window_clear());
+        self.outcome(step, answers::done)
+    }
+
+    /// Retires all values and hands back as many as are held, at most `number`, which is 0 to 256. Answers how many.
+    ///
+    /// Refused: `Budget`.
+    pub fn clear_bounded(&mut self, number: u32) -> Outcome<'_, u32> {
+        let step = returning!(self, packet_window_clear_bounded(number));
+        self.outcome(step, answers::number)
+    }
+
+    /// The live pairs, sequence and value, in the order of pages, then of cells.
+    pub fn iter(&self) -> Iter<'_, 'm> {
+        Iter { window: self, cell: Some(0) }
+    }
+
+    /// A live pair, sequence and value, at a position of first to last that is none of the range's sequences, or whose sequence has its
+    /// top bit set; none exactly if there is none.
+    ///
+    /// Refused: `RangeCount`.
+    pub fn stranger(&self, first: u32, last: u32) -> Result<Option<(u32, u32)>, Refusal> {
+        answers::pair(reading!(self, packet_window_stranger(first, last)))
+    }
+
+    /// Whether the state is sound. It looks at every page.
+    ///
+    /// Refused: `Unsound`, exactly if it is not.
+    pub fn check(&self) -> Result<(), Refusal> {
+        answers::done(reading!(self, packet_window_check()))
+    }
+
+    /// Live values.
+    pub fn len(&self) -> u32 {
+        self.header.len
+    }
+
+    /// Whether no value is live.
+    pub fn is_empty(&self) -> bool {
+        self.header.len == 0
+    }
+
+    /// Retired values still held.
+    pub fn retired_held(&self) -> u32 {
+        self.header.retired_held
+    }
+
+    /// Whether retired values are held.
+    pub fn has_retired(&self) -> bool {
+        self.header.retired_held != 0
+    }
+
+    /// Whether no value, live or retired, is held.
+    pub fn is_released(&self) -> bool {
+        self.is_empty() && !self.has_retired()
+    }
+
+    /// Pages that became dense, modulo 2^64.
+    pub fn promotions(&self) -> u64 {
+        self.header.promotions
+    }
+
+    /// Pages that became sparse again, modulo 2^64.
+    pub fn demotions(&self) -> u64 {
+        self.header.demotions
+    }
+
+    /// As given to `new`.
+    pub fn window_size(&self) -> u32 {
+        self.header.window_size
+    }
+
+    /// Positions: two sequences with the same remainder by it share one.
+    pub fn capacity(&self) -> usize {
+        capacity(self.header.window_size)
+    }
+
+    /// The header as the last call left it.
+    pub fn header(&self) -> &Header {
+        &self.header
+    }
+
+    fn outcome<T>(&self, step: NumberedStep, read: fn(NumberedAnswer) -> Result<T, Refusal>) -> Outcome<'_, T> {
+        Outcome {
+            answer: read(step.answer),
+            returned: &self.memory.returned[..step.count as usize],
+        }
+    }
+}
+
+/// The live pairs of a window. It ends after a refusal.
+#[derive(Debug, Clone)]
+pub struct Iter<'w, 'm> {
+    window: &'w Window<'m>,
+    cell: Option<u32>,
+}
+
+impl Iterator for Iter<'_, '_> {
+    type Item = Result<(u32, u32), Refusal>;
+
+    fn next(&mut self) -> Option<Self::Item> {
+        let cell = self.cell.take()?;
+        match answers::next_pair(reading!(self.window, packet_window_iter(cell)))? {
+            // A cell that does not rise can come of an unsound state only.
+            Ok((_, _, next)) if next <= cell => Some(Err(Refusal::Unsound)),
+            Ok((sequence, value, next)) => {
+                self.cell = Some(next);
+                Some(Ok((sequence, value)))
+            }
+            Err(refusal) => Some(Err(refusal)),
+        }
+    }
+}
+
+impl FusedIterator for Iter<'_, '_> {}
+
+impl<'w, 'm> IntoIterator for &'w Window<'m> {
+    type Item = Result<(u32, u32), Refusal>;
+    type IntoIter = Iter<'w, 'm>;
+
+    fn into_iter(self) -> Self::IntoIter {
+        self.iter()
+    }
+}

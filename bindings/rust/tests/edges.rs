@@ -1,0 +1,252 @@
+//! The starred edge cases of document 01, and what the interface itself adds: lengths, short lists, the iterator.
+
+use packet_window::*;
+
+/// A window of this size over `memory`, which must be long enough.
+fn window(memory: &mut OwnedMemory, window_size: u32) -> Window<'_> {
+    Window::new(memory.lend(), window_size, 8, 0).expect("within the limits")
+}
+
+/// Inserts one value, which is neither refused nor a replacement and returns nothing.
+fn enter(window: &mut Window, sequence: u32, value: u32) {
+    let outcome = window.insert(sequence, value);
+    assert_eq!((outcome.answer, outcome.returned), (Ok(Inserted::New), [].as_slice()), "insert {sequence}");
+}
+
+fn refusal_of_new(window_size: u32, n: u32, demote_at: u32) -> Option<Refusal> {
+    Window::new(OwnedMemory::new(65536).lend(), window_size, n, demote_at).err()
+}
+
+#[test]
+fn limits_of_new() {
+    assert_eq!(refusal_of_new(0, 8, 4), Some(Refusal::WindowSize));
+    assert_eq!(refusal_of_new(1, 8, 4), None);
+    assert_eq!(refusal_of_new(65536, 8, 4), None);
+    assert_eq!(refusal_of_new(65537, 8, 4), Some(Refusal::WindowSize));
+    assert_eq!(refusal_of_new(64, 0, 0), Some(Refusal::SparseCells));
+    assert_eq!(refusal_of_new(64, 63, 0), None);
+    assert_eq!(refusal_of_new(64, 64, 0), Some(Refusal::SparseCells));
+    assert_eq!(refusal_of_new(64, 8, 8), None);
+    assert_eq!(refusal_of_new(64, 8, 9), Some(Refusal::DemoteAt));
+    assert_eq!(refusal_of_new(0, 64, 99), Some(Refusal::WindowSize));
+    assert_eq!(refusal_of_new(64, 64, 99), Some(Refusal::SparseCells));
+}
+
+#[test]
+fn a_short_list_is_refused_last_and_written_nowhere() {
+    let shorten: [fn(&mut OwnedMemory); 5] = [
+        |memory| memory.sequences.truncate(memory.sequences.len() - 1),
+        |memory| memory.values.truncate(memory.values.len() - 1),
+        |memory| memory.pages.truncate(memory.pages.len() - 1),
+        |memory| memory.blocks.truncate(memory.blocks.len() - 1),
+        |memory| memory.returned.truncate(memory.returned.len() - 1),
+    ];
+    for (list, shorten) in shorten.into_iter().enumerate() {
+        let mut memory = OwnedMemory::new(100);
+        memory.pages.fill(7);
+        memory.blocks.fill(7);
+        shorten(&mut memory);
+        let before = memory.clone();
+        assert_eq!(Window::new(memory.lend(), 100, 8, 9).err(), Some(Refusal::DemoteAt), "list {list}");
+        assert_eq!(Window::new(memory.lend(), 100, 8, 8).err(), Some(Refusal::ShortMemory), "list {list}");
+        assert_eq!(memory, before, "list {list}");
+    }
+}
+
+#[test]
+fn lengths_are_those_the_library_asks_for() {
+    for window_size in [1, 63, 64, 65, 128, 129, 4096, 4097, 32768, 32769, 65535, 65536] {
+        let mut memory = OwnedMemory::new(window_size);
+        assert!(Window::new(memory.lend(), window_size, 1, 0).is_ok(), "window_size {window_size}");
+    }
+    assert_eq!((capacity(65), page_words(65), block_words(65)), (128, 6, 3));
+    assert_eq!((capacity(65536), page_words(65536), block_words(65536)), (65536, 3072, 48));
+}
+
+#[test]
+fn sequences_that_share_a_position() {
+    let mut memory = OwnedMemory::new(65);
+    let mut w = window(&mut memory, 65);
+    enter(&mut w, 5, 50);
+    enter(&mut w, 70, 51);
+    assert_eq!(w.insert(133, 52).answer, Err(Refusal::Occupied));
+    assert_eq!(w.insert(2147483653, 53).answer, Err(Refusal::Occupied));
+    assert_eq!((w.get(5), w.get(133), w.get(2147483653)), (Ok(Some(50)), Ok(None), Ok(None)));
+    assert_eq!((w.exchange(133, 54), w.remove(133)), (Ok(None), Ok(None)));
+    assert_eq!(w.len(), 2);
+}
+
+#[test]
+fn the_same_sequence_again() {
+    let mut memory = OwnedMemory::new(64);
+    let mut w = window(&mut memory, 64);
+    enter(&mut w, 5, 50);
+    assert_eq!(w.insert(5, 51).answer, Ok(Inserted::Replaced(50)));
+    assert_eq!(w.exchange(5, 52), Ok(Some(51)));
+    assert_eq!((w.len(), w.remove(5), w.len()), (1, Ok(Some(52)), 0));
+}
+
+#[test]
+fn count_of_a_range() {
+    let mut memory = OwnedMemory::new(64);
+    let mut w = window(&mut memory, 64);
+    for sequence in [0, 1, 62, 63] {
+        enter(&mut w, sequence, 100 + sequence);
+    }
+    assert_eq!(w.remove_range(0, 64).answer, Err(Refusal::RangeCount));
+    assert_eq!(w.remove_range(5, 4).answer, Err(Refusal::RangeCount));
+    assert_eq!(w.len(), 4);
+    let outcome = w.remove_range(2147483647, 0);
+    assert_eq!((outcome.answer, outcome.returned), (Ok(2), [163, 100].as_slice()));
+    assert_eq!(w.remove_range(0, 63).answer, Ok(2));
+}
+
+#[test]
+fn the_only_value_succeeds_itself() {
+    let mut memory = OwnedMemory::new(64);
+    let mut w = window(&mut memory, 64);
+    assert_eq!((w.successor_after(9), w.first_from(9)), (Ok(None), Ok(None)));
+    enter(&mut w, 9, 90);
+    for from in [8, 9, 10] {
+        assert_eq!((w.successor_after(from), w.first_from(from)), (Ok(Some(9)), Ok(Some(9))));
+    }
+    enter(&mut w, 20, 91);
+    assert_eq!((w.successor_after(9), w.first_from(9)), (Ok(Some(20)), Ok(Some(9))));
+}
+
+#[test]
+fn budgets() {
+    let mut memory = OwnedMemory::new(64);
+    let mut w = window(&mut memory, 64);
+    enter(&mut w, 9, 90);
+    assert_eq!(w.release_retired(257).answer, Err(Refusal::Budget));
+    assert_eq!(w.clear_bounded(257).answer, Err(Refusal::Budget));
+    assert_eq!(w.len(), 1);
+    assert_eq!(w.release_retired(256).answer, Ok(Released { values: 0, units: 0 }));
+    let outcome = w.clear_bounded(256);
+    assert_eq!((outcome.answer, outcome.returned), (Ok(1), [90].as_slice()));
+}
+
+/// Window 512 with sequences 0 to 511, sequence s with the value 1000 + s, cleared once.
+fn cleared(memory: &mut OwnedMemory) -> Window<'_> {
+    let mut w = window(memory, 512);
+    for sequence in 0..512 {
+        enter(&mut w, sequence, 1000 + sequence);
+    }
+    let outcome = w.clear();
+    assert_eq!((outcome.answer, outcome.returned.len()), (Ok(()), 252));
+    assert_eq!((w.len(), w.retired_held(), w.is_released()), (0, 260, false));
+    w
+}
+
+#[test]
+fn release_after_clear() {
+    let mut memory = OwnedMemory::new(512);
+    let mut w = cleared(&mut memory);
+    let outcome = w.release_retired(1);
+    assert_eq!((outcome.answer, outcome.returned.len()), (Ok(Released { values: 0, units: 1 }), 0));
+    let outcome = w.release_retired(2);
+    assert_eq!((outcome.answer, outcome.returned.len()), (Ok(Released { values: 1, units: 2 }), 1));
+    while w.has_retired() {
+        assert!(w.release_retired(MAX_RETIRED_RELEASED_PER_VISIT).answer.is_ok_and(|released| released.values > 0));
+    }
+    assert!(w.is_released());
+}
+
+#[test]
+fn insert_after_clear() {
+    let mut memory = OwnedMemory::new(512);
+    enter(&mut cleared(&mut memory), 100, 1);
+    let mut w = cleared(&mut memory);
+    let outcome = w.insert(250, 1);
+    assert_eq!((outcome.answer, outcome.returned), (Ok(Inserted::New), [1252, 1253, 1254, 1255].as_slice()));
+}
+
+#[test]
+fn iterator_goes_by_page_then_cell_and_ends() {
+    let mut memory = OwnedMemory::new(128);
+    let mut w = window(&mut memory, 128);
+    for (sequence, value) in [(70, 1), (9, 2), (3, 3), (6, 4)] {
+        enter(&mut w, sequence, value);
+    }
+    let pairs: Result<Vec<_>, _> = w.iter().collect();
+    assert_eq!(pairs, Ok(vec![(9, 2), (3, 3), (6, 4), (70, 1)]));
+    let mut iter = w.into_iter();
+    assert_eq!(iter.by_ref().count(), 4);
+    assert_eq!(iter.next(), None);
+}
+
+#[test]
+fn strangers() {
+    let mut memory = OwnedMemory::new(64);
+    let mut w = window(&mut memory, 64);
+    enter(&mut w, 69, 51);
+    assert_eq!(w.stranger(5, 5), Ok(Some((69, 51))));
+    assert_eq!((w.stranger(69, 69), w.stranger(6, 68)), (Ok(None), Ok(None)));
+    assert_eq!((w.stranger(0, 63), w.stranger(0, 64)), (Ok(Some((69, 51))), Err(Refusal::RangeCount)));
+    enter(&mut w, 2147483654, 52);
+    assert_eq!(w.stranger(2147483654, 2147483654), Ok(Some((2147483654, 52))));
+}
+
+/// The parts of a window of 100 with three live values.
+fn parts(memory: &mut OwnedMemory) -> (Header, Memory<'_>) {
+    let mut w = window(memory, 100);
+    for sequence in [5, 70, 71] {
+        enter(&mut w, sequence, sequence);
+    }
+    w.into_parts()
+}
+
+#[test]
+fn a_window_goes_on_from_its_parts() {
+    let mut memory = OwnedMemory::new(100);
+    let (header, memory) = parts(&mut memory);
+    let mut w = Window::from_parts(header, memory).expect("a sound state");
+    assert_eq!((w.check(), w.len(), w.remove(70)), (Ok(()), 3, Ok(Some(70))));
+}
+
+#[test]
+fn parts_that_were_written_are_refused() {
+    let damage: [fn(&mut Header, &mut Memory); 6] = [
+        |header, _| header.len += 1,
+        |header, _| header.retired_held = 1,
+        |header, _| header.release_cursor = 2,
+        |_, memory| memory.sequences[0] += 1,
+        |_, memory| memory.pages[0] = 3,
+        |_, memory| memory.blocks[2] -= 1,
+    ];
+    for (number, damage) in damage.into_iter().enumerate() {
+        let mut memory = OwnedMemory::new(100);
+        let (mut header, mut memory) = parts(&mut memory);
+        damage(&mut header, &mut memory);
+        assert_eq!(Window::from_parts(header, memory).err(), Some(Refusal::Unsound), "damage {number}");
+    }
+}
+
+#[test]
+fn parts_that_do_not_fit_are_refused() {
+    let mut memory = OwnedMemory::new(100);
+    assert_eq!(Window::from_parts(Header::default(), memory.lend()).err(), Some(Refusal::ShortMemory));
+    let (header, memory) = parts(&mut memory);
+    let short = Memory { values: &mut memory.values[1..], ..memory };
+    assert_eq!(Window::from_parts(header, short).err(), Some(Refusal::ShortMemory));
+    let mut memory = OwnedMemory::new(100);
+    let (header, memory) = parts(&mut memory);
+    let short = Memory { returned: &mut memory.returned[1..], ..memory };
+    assert_eq!(Window::from_parts(header, short).err(), Some(Refusal::ShortMemory));
+}
+
+#[test]
+fn refusals_have_document_01s_numbers() {
+    let refusals = [
+        Refusal::WindowSize,
+        Refusal::SparseCells,
+        Refusal::DemoteAt,
+        Refusal::Occupied,
+        Refusal::RangeCount,
+        Refusal::ShortMemory,
+        Refusal::Unsound,
+        Refusal::Budget,
+    ];
+    assert_eq!(refusals.map(Refusal::number), [1, 2, 3, 4, 5, 6, 7, 8]);
+}
