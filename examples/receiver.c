@@ -1,0 +1,207 @@
+/*
+ * A receiver: packets come out of order, a late range is dropped, retired stores are released within a budget for each visit.
+ *
+ *     cc -std=c99 -Iinclude -o receiver examples/receiver.c target/libpacket_window.a
+ *
+ * Each value in the window is the number of a packet store. A ledger says of every store whether the window has it; the program ends
+ * with status 1 if a store comes back that is not out, or if one is still out at the end.
+ */
+#include "packet_window.h"
+
+#include <stdio.h>
+#include <stdlib.h>
+
+#define WINDOW_SIZE 1000
+#define SPARSE_CELLS 8
+#define DEMOTE_AT 4
+#define FIRST_SEQUENCE 2147483000u /* the 31-bit sequence numbers wrap during the run */
+#define PACKETS 900u
+#define STORES 1024u
+#define BUDGET 64u
+
+/* ---- the window: a header, and the memory that it is lent */
+
+static packet_window_header window;
+static uint32_t sequences[PACKET_WINDOW_CAPACITY(WINDOW_SIZE)];
+static uint32_t values[PACKET_WINDOW_CAPACITY(WINDOW_SIZE)];
+static uint64_t pages[PACKET_WINDOW_PAGE_WORDS(WINDOW_SIZE)];
+static uint64_t blocks[PACKET_WINDOW_BLOCK_WORDS(WINDOW_SIZE)];
+static uint32_t returned[PACKET_WINDOW_RETURN_PLACES];
+
+/* The arguments for the lists: start and length of each. */
+#define LENGTH(list) (sizeof(list) / sizeof((list)[0]))
+#define LIST(list) (list), LENGTH(list)
+#define LISTS LIST(sequences), LIST(values), LIST(pages), LIST(blocks)
+
+/* ---- the ledger of packet stores */
+
+static int is_out[STORES];
+
+static void fail(const char *why, uint32_t number)
+{
+    printf("%s: %u\n", why, (unsigned)number);
+    exit(1);
+}
+
+static uint32_t free_store(void)
+{
+    uint32_t store = 0;
+    while (store < STORES && is_out[store])
+        store++;
+    if (store == STORES)
+        fail("no free store of", STORES);
+    return store;
+}
+
+static void comes_back(uint32_t store)
+{
+    if (store >= STORES || !is_out[store])
+        fail("a store came back that is not out", store);
+    is_out[store] = 0;
+}
+
+static uint32_t stores_out(void)
+{
+    uint32_t store, count = 0;
+    for (store = 0; store < STORES; store++)
+        count += is_out[store] ? 1 : 0;
+    return count;
+}
+
+/* ---- the calls */
+
+/* After every call: keep the header, and take back what is in the return list. */
+static packet_window_answer keep(packet_window_step step)
+{
+    uint32_t place;
+    window = step.window;
+    for (place = 0; place < step.count; place++)
+        comes_back(returned[place]);
+    return step.answer;
+}
+
+static void expect(packet_window_answer answer, uint32_t code)
+{
+    if (answer.code == PACKET_WINDOW_REFUSED)
+        fail("refused", answer.first);
+    if (answer.code != code)
+        fail("answer with code", answer.code);
+}
+
+/* A packet has come: its bytes go into a free store, and the store into the window. */
+static void receive(uint32_t sequence)
+{
+    uint32_t store = free_store();
+    packet_window_answer answer = keep(packet_window_insert(window, LISTS, LIST(returned), sequence, store));
+    switch (answer.code) {
+    case PACKET_WINDOW_NEW:
+        is_out[store] = 1;
+        break;
+    case PACKET_WINDOW_REPLACED: /* sent twice: the window has the new store now, and gives the old one back */
+        is_out[store] = 1;
+        comes_back(answer.first);
+        break;
+    default: /* refused: the store is still ours */
+        if (answer.first != PACKET_WINDOW_REFUSED_OCCUPIED)
+            fail("insert refused", answer.first);
+        break;
+    }
+}
+
+/* The next packet in order is shown, and its store is free again; 0 if it has not come. */
+static int deliver(uint32_t sequence)
+{
+    packet_window_answer answer = keep(packet_window_remove(window, LISTS, sequence));
+    if (answer.code == PACKET_WINDOW_ABSENT)
+        return 0;
+    expect(answer, PACKET_WINDOW_FOUND);
+    comes_back(answer.first);
+    return 1;
+}
+
+/* Packets first to last are too late. Some of their stores come back now, the others are retired. */
+static uint32_t drop_late(uint32_t first, uint32_t last)
+{
+    uint32_t before = window.len;
+    packet_window_answer answer = keep(packet_window_remove_range(window, LISTS, LIST(returned), first, last));
+    expect(answer, PACKET_WINDOW_FOUND);
+    if (answer.first != before - window.len)
+        fail("wrong number of packets dropped", answer.first);
+    return answer.first;
+}
+
+/* Retired stores come back, as many as the budget allows. */
+static void release_some(void)
+{
+    expect(keep(packet_window_release_retired(window, LISTS, LIST(returned), BUDGET)), PACKET_WINDOW_RELEASED);
+}
+
+static uint32_t live_pairs(void)
+{
+    uint32_t count = 0, cell = 0;
+    for (;;) {
+        packet_window_answer answer = packet_window_iter(window, LISTS, cell).answer;
+        if (answer.code != PACKET_WINDOW_PAIR)
+            return count;
+        cell = answer.third;
+        count++;
+    }
+}
+
+/* ---- the run */
+
+static void report(const char *what, uint32_t number)
+{
+    printf("%s %u: %u live, %u retired, %u stores out\n", what, (unsigned)number, (unsigned)window.len, (unsigned)window.retired_held,
+           (unsigned)stores_out());
+    if (stores_out() != window.len + window.retired_held || live_pairs() != window.len)
+        fail("the ledger and the window differ", stores_out());
+    expect(packet_window_check(window, LISTS).answer, PACKET_WINDOW_DONE);
+}
+
+/* Packet i of the stream, as a 31-bit sequence number. */
+static uint32_t sequence_of(uint32_t i)
+{
+    return (FIRST_SEQUENCE + i) & 0x7fffffffu;
+}
+
+int main(void)
+{
+    uint32_t i, visits;
+
+    expect(keep(packet_window_new(LISTS, WINDOW_SIZE, SPARSE_CELLS, DEMOTE_AT)), PACKET_WINDOW_DONE);
+
+    for (i = 0; i < PACKETS; i++) {
+        uint32_t packet = i * 7 % PACKETS; /* each once, out of order */
+        if (packet % 100 != 70)            /* some are lost */
+            receive(sequence_of(packet));
+    }
+    receive(sequence_of(0));                                   /* sent twice */
+    receive(sequence_of(PACKET_WINDOW_CAPACITY(WINDOW_SIZE))); /* too early: packet 0 has its position */
+    report("received, of packets", PACKETS);
+
+    for (i = 0; deliver(sequence_of(i)); i++)
+        ;
+    report("delivered in order", i);
+
+    report("dropped late", drop_late(sequence_of(i), sequence_of(799)));
+
+    for (i = PACKETS; window.retired_held != 0; i++) { /* packets keep coming; a packet for a retired page releases that page */
+        receive(sequence_of(i));
+        if (i % 128 == 0)
+            release_some();
+    }
+    report("received while releasing", i - PACKETS);
+
+    expect(keep(packet_window_clear(window, LISTS, LIST(returned))), PACKET_WINDOW_DONE);
+    report("cleared, pages made dense", (uint32_t)window.promotions);
+
+    for (visits = 0; window.retired_held != 0; visits++)
+        release_some();
+    report("released, visits", visits);
+
+    if (stores_out() != 0)
+        fail("stores still out", stores_out());
+    printf("every store came back exactly once\n");
+    return 0;
+}
