@@ -1,0 +1,125 @@
+/*
+ * The host forms against the calls by value: the same calls on two windows, refused ones included; after each call answers, counts,
+ * headers and all lists are equal.
+ */
+#include "packet_window.h"
+
+#include <stdio.h>
+#include <string.h>
+
+#define WINDOW_SIZE 5000
+#define CALLS 300000u
+
+typedef struct {
+    packet_window_header header;
+    uint32_t sequences[PACKET_WINDOW_CAPACITY(WINDOW_SIZE)];
+    uint32_t values[PACKET_WINDOW_CAPACITY(WINDOW_SIZE)];
+    uint64_t pages[PACKET_WINDOW_PAGE_WORDS(WINDOW_SIZE)];
+    uint64_t blocks[PACKET_WINDOW_BLOCK_WORDS(WINDOW_SIZE)];
+    uint32_t returned[PACKET_WINDOW_RETURN_PLACES];
+} window;
+
+static window host, by_value;
+
+#define LENGTH(list) (sizeof(list) / sizeof((list)[0]))
+#define LIST(list) (list), LENGTH(list)
+#define LISTS(w) LIST((w).sequences), LIST((w).values), LIST((w).pages), LIST((w).blocks)
+
+static uint64_t state = 88172645463325252u;
+
+/* xorshift64 */
+static uint32_t below(uint32_t bound)
+{
+    state ^= state << 13;
+    state ^= state >> 7;
+    state ^= state << 17;
+    return (uint32_t)((state >> 32) * bound >> 32);
+}
+
+/* How often each code was given, by the refusal's number if refused. */
+static unsigned given[8], refused[9];
+
+static packet_window_outcome keep(packet_window_step step)
+{
+    packet_window_outcome outcome;
+    by_value.header = step.window;
+    outcome.answer = step.answer;
+    outcome.count = step.count;
+    return outcome;
+}
+
+static int same(packet_window_outcome a, packet_window_outcome b)
+{
+    given[a.answer.code]++;
+    if (a.answer.code == PACKET_WINDOW_REFUSED)
+        refused[a.answer.first]++;
+    return memcmp(&a, &b, sizeof(a)) == 0 && memcmp(&host, &by_value, sizeof(host)) == 0;
+}
+
+static int insert(uint32_t sequence, uint32_t store, size_t places)
+{
+    packet_window_outcome a = packet_window_host_insert(&host.header, LISTS(host), host.returned, places, sequence, store);
+    return same(a, keep(packet_window_insert(by_value.header, LISTS(by_value), by_value.returned, places, sequence, store)));
+}
+
+static int remove_one(uint32_t sequence)
+{
+    packet_window_outcome a = packet_window_host_remove(&host.header, LISTS(host), sequence);
+    return same(a, keep(packet_window_remove(by_value.header, LISTS(by_value), sequence)));
+}
+
+static int release_retired(uint32_t budget)
+{
+    packet_window_outcome a = packet_window_host_release_retired(&host.header, LISTS(host), LIST(host.returned), budget);
+    return same(a, keep(packet_window_release_retired(by_value.header, LISTS(by_value), LIST(by_value.returned), budget)));
+}
+
+/* A range is removed by value on both, so that there is something to release. */
+static int remove_range(uint32_t first, uint32_t last)
+{
+    packet_window_step step = packet_window_remove_range(host.header, LISTS(host), LIST(host.returned), first, last);
+    packet_window_outcome a;
+    host.header = step.window;
+    a.answer = step.answer;
+    a.count = step.count;
+    return same(a, keep(packet_window_remove_range(by_value.header, LISTS(by_value), LIST(by_value.returned), first, last)));
+}
+
+static int call(void)
+{
+    uint32_t sequence = below(WINDOW_SIZE + 4000);
+    size_t places = PACKET_WINDOW_RETURN_PLACES - (below(50) == 0);
+    switch (below(20)) {
+    case 0:
+        return below(10) != 0 || remove_range(sequence, sequence + below(WINDOW_SIZE));
+    case 1:
+        return release_retired(below(260));
+    case 2:
+    case 3:
+    case 4:
+        return remove_one(sequence);
+    default:
+        return insert(sequence, below(1u << 31), places);
+    }
+}
+
+int main(void)
+{
+    uint32_t number;
+    host.header = packet_window_new(LISTS(host), WINDOW_SIZE, 8, 4).window;
+    by_value = host;
+    for (number = 0; number < CALLS; number++) {
+        if (!call()) {
+            printf("call %u: the host form and the call by value differ\n", (unsigned)number);
+            return 1;
+        }
+    }
+    if (!given[PACKET_WINDOW_NEW] || !given[PACKET_WINDOW_REPLACED] || !given[PACKET_WINDOW_ABSENT] || !given[PACKET_WINDOW_FOUND] ||
+        !given[PACKET_WINDOW_RELEASED] || !refused[PACKET_WINDOW_REFUSED_OCCUPIED] || !refused[PACKET_WINDOW_REFUSED_SHORT_MEMORY] ||
+        !refused[PACKET_WINDOW_REFUSED_BUDGET]) {
+        printf("an answer was never given\n");
+        return 1;
+    }
+    printf("%u calls alike\n", (unsigned)CALLS);
+    return 0;
+}
