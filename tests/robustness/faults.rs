@@ -1,0 +1,204 @@
+//! Calls that do what no call may: the harness must name each of them.
+
+use crate::declared::{Header, NumberedAnswer, NumberedStep, DONE};
+use crate::memory::{Lent, BLOCKS, HEADER, PAGES, RETURNED, SEQUENCES, VALUES};
+use crate::operations::{Call, ABSENT, OCCUPIED, REFUSED, SHORT_MEMORY, UNSOUND};
+use crate::judge::refused;
+use std::process::Command;
+
+/// A wrong end of a call, and what the report of it says.
+pub struct Fault {
+    pub name: &'static str,
+    pub end: fn(&Call, &Lent, &mut NumberedStep),
+    pub said: &'static str,
+}
+
+const OUTSIDE: &str = "access outside of the lent memory";
+/// A write next to a list faults, or changes what stands between the list and the guard region.
+const WRITTEN: &str = "outside";
+
+fn refusal(number: u32) -> NumberedAnswer {
+    NumberedAnswer { code: REFUSED, first: number, second: 0, third: 0 }
+}
+
+/// Element `at` of a list of numbers, or of words.
+fn number(lent: &Lent, list: usize, at: isize) -> *mut u32 {
+    unsafe { lent.starts[list].cast::<u32>().offset(at) }
+}
+
+fn word(lent: &Lent, list: usize, at: isize) -> *mut u64 {
+    unsafe { lent.starts[list].cast::<u64>().offset(at) }
+}
+
+fn changed(place: *mut u32) {
+    unsafe { place.write_volatile(!place.read_volatile()) }
+}
+
+/// Whether the arguments of a call of that name do not refuse it.
+fn taken(call: &Call, name: &str) -> bool {
+    call.operation.name == name && call.refusal().is_none()
+}
+
+macro_rules! fault {
+    ($name:literal, $said:expr, |$call:ident, $lent:ident, $step:ident| $end:expr) => {
+        Fault { name: $name, said: $said, end: |$call, $lent, $step| { let _ = ($call, $lent, &$step); $end } }
+    };
+}
+
+pub static FAULTS: &[Fault] = &[
+    fault!("reads-past-the-sequences", OUTSIDE, |call, lent, step| unsafe {
+        number(lent, SEQUENCES, lent.lengths[SEQUENCES] as isize).read_volatile();
+    }),
+    fault!("reads-past-the-pages", OUTSIDE, |call, lent, step| unsafe {
+        word(lent, PAGES, lent.lengths[PAGES] as isize).read_volatile();
+    }),
+    fault!("reads-before-the-values", OUTSIDE, |call, lent, step| unsafe {
+        number(lent, VALUES, -1).read_volatile();
+    }),
+    fault!("writes-past-the-return-list", WRITTEN, |call, lent, step| {
+        if taken(call, "insert") {
+            changed(number(lent, RETURNED, lent.lengths[RETURNED] as isize));
+        }
+    }),
+    fault!("writes-before-the-blocks", WRITTEN, |call, lent, step| {
+        if taken(call, "clear") {
+            changed(word(lent, BLOCKS, -1).cast());
+        }
+    }),
+    fault!("writes-past-the-header", WRITTEN, |call, lent, step| {
+        if call.operation.by_start() {
+            changed(word(lent, HEADER, lent.lengths[HEADER] as isize).cast());
+        }
+    }),
+    fault!("writes-the-header-when-refused", "the header changed outside its first 0", |call, lent, step| {
+        if call.operation.by_start() && call.refusal().is_some() {
+            changed(word(lent, HEADER, 0).cast());
+        }
+    }),
+    fault!("writes-what-it-reads", OUTSIDE, |call, lent, step| {
+        if taken(call, "get") {
+            changed(number(lent, VALUES, 0));
+        }
+    }),
+    fault!("writes-when-refused", OUTSIDE, |call, lent, step| {
+        if call.refusal().is_some() && lent.lengths[SEQUENCES] > 0 {
+            changed(number(lent, SEQUENCES, 0));
+        }
+    }),
+    fault!("writes-when-occupied", "changed outside its first 0", |call, lent, step| {
+        if refused(step.answer) == Some(OCCUPIED) {
+            changed(number(lent, VALUES, 0));
+        }
+    }),
+    fault!("writes-past-the-named-length", "pages changed outside its first", |call, lent, step| {
+        let named = call.named()[PAGES];
+        if taken(call, "remove") && named < lent.lengths[PAGES] {
+            changed(word(lent, PAGES, named as isize).cast());
+        }
+    }),
+    fault!("writes-past-the-count", "returned changed outside its first", |call, lent, step| {
+        if taken(call, "remove_range") && (step.count as usize) < lent.lengths[RETURNED] {
+            changed(number(lent, RETURNED, step.count as isize));
+        }
+    }),
+    fault!("does-not-end", "no end in", |call, lent, step| loop {
+        std::hint::spin_loop();
+    }),
+    fault!("traps", "trap in", |call, lent, step| unsafe { std::arch::asm!("ud2") }),
+    fault!("code-8", "answers NumberedAnswer { code: 8", |call, lent, step| step.answer.code = 8),
+    fault!("code-of-another-call", "answers NumberedAnswer { code: 0", |call, lent, step| {
+        if taken(call, "get") {
+            step.answer = NumberedAnswer { code: DONE, ..step.answer };
+        }
+    }),
+    fault!("a-number-not-used", "with numbers that are not used", |call, lent, step| {
+        if step.answer.code == ABSENT {
+            step.answer.first = 1;
+        }
+    }),
+    fault!("refusal-0", "answers NumberedAnswer { code: 7, first: 0", |call, lent, step| step.answer = refusal(0)),
+    fault!("refusal-9", "answers NumberedAnswer { code: 7, first: 9", |call, lent, step| step.answer = refusal(9)),
+    fault!("refuses-6-what-it-takes", "refuses Some(6)", |call, lent, step| {
+        if taken(call, "exchange") {
+            step.answer = refusal(SHORT_MEMORY);
+        }
+    }),
+    fault!("refuses-7-a-sound-state", "refuses Some(7) on a sound state", |call, lent, step| {
+        if taken(call, "successor_after") {
+            step.answer = refusal(UNSOUND);
+        }
+    }),
+    fault!("passes-an-unsound-state", "says that the state is sound, which it is not", |call, lent, step| {
+        if call.operation.is_check() && refused(step.answer) == Some(UNSOUND) {
+            step.answer = NumberedAnswer { code: DONE, first: 0, ..step.answer };
+        }
+    }),
+    fault!("takes-what-it-refuses", "not refusal Some(", |call, lent, step| {
+        if call.operation.name == "clear_bounded" && call.refusal().is_some() {
+            step.answer = NumberedAnswer { code: 4, first: 0, second: 0, third: 0 };
+        }
+    }),
+    fault!("refuses-in-another-order", "not refusal Some(", |call, lent, step| {
+        if call.refusal() == Some(SHORT_MEMORY) {
+            step.answer = refusal(5);
+        }
+    }),
+    fault!("another-header-when-refused", "header Header", |call, lent, step| {
+        if call.refusal().is_some() {
+            step.window = Header { len: !step.window.len, ..step.window };
+        }
+    }),
+    fault!("another-header-when-reading", "header Header", |call, lent, step| {
+        if taken(call, "iter") {
+            step.window.promotions ^= 1 << 40;
+        }
+    }),
+    fault!("another-window-size", "header Header", |call, lent, step| {
+        if taken(call, "insert") {
+            step.window.window_size ^= 1;
+        }
+    }),
+    fault!("count-without-a-list", "count 1, at most 0", |call, lent, step| {
+        if taken(call, "first_from") {
+            step.count = 1;
+        }
+    }),
+    fault!("count-above-the-list", "at most", |call, lent, step| {
+        if taken(call, "release_retired") {
+            step.count = lent.lengths[RETURNED] as u32 + 1;
+        }
+    }),
+    fault!("count-one-less", "returned changed outside its first", |call, lent, step| step.count = step.count.saturating_sub(1)),
+    fault!("held-one-less", "held and handed back", |call, lent, step| {
+        if taken(call, "release_retired") && step.window.retired_held > 0 {
+            step.window.retired_held -= 1;
+        }
+    }),
+    fault!("words-left-by-new", "words are left", |call, lent, step| {
+        if taken(call, "new") {
+            changed(word(lent, BLOCKS, 0).cast());
+        }
+    }),
+];
+
+pub fn find(name: &str) -> Option<&'static Fault> {
+    FAULTS.iter().find(|fault| fault.name == name)
+}
+
+/// Seeds in which each fault must be met.
+const SEEDS: [&str; 2] = ["1", "60"];
+
+/// Each fault in a process of its own, which must fail and say what and where it was.
+pub fn self_test() -> Result<String, String> {
+    let program = std::env::current_exe().map_err(|error| error.to_string())?;
+    for fault in FAULTS {
+        let run = Command::new(&program).args(SEEDS).args(["--fault", fault.name]).output();
+        let run = run.map_err(|error| error.to_string())?;
+        let said = String::from_utf8_lossy(&run.stdout);
+        let named = said.starts_with("seed ") && said.contains(", call ") && said.contains("again: ");
+        if run.status.success() || !named || !said.contains(fault.said) {
+            return Err(format!("fault {} was not named: {:?}\n{said}", fault.name, run.status));
+        }
+    }
+    Ok(format!("{} faults, each named", FAULTS.len()))
+}

@@ -1,0 +1,160 @@
+//! What a call must keep to, on any memory.
+
+use crate::declared::*;
+use crate::memory::{Memory, BLOCKS, NAMES, PAGES, RETURNED};
+use crate::operations::*;
+
+/// How many numbers an answer has, by its code.
+const USED: [usize; 8] = [0, 0, 1, 0, 1, 3, 2, 1];
+
+/// A call that was made, what it gave, and the memory after it.
+pub struct Made<'a> {
+    pub call: &'a Call,
+    pub step: &'a NumberedStep,
+    pub memory: &'a Memory,
+    /// The state before the call was sound.
+    pub sound: bool,
+}
+
+pub fn refused(answer: NumberedAnswer) -> Option<u32> {
+    (answer.code == REFUSED).then_some(answer.first)
+}
+
+fn demand(holds: bool, what: impl FnOnce() -> String) -> Result<(), String> {
+    if holds {
+        Ok(())
+    } else {
+        Err(what())
+    }
+}
+
+impl Made<'_> {
+    fn answer(&self) -> NumberedAnswer {
+        self.step.answer
+    }
+
+    /// The code is one that the call has, or a refusal from 1 to 8; numbers that the code does not use are 0.
+    fn readable(&self) -> Result<(), String> {
+        let answer @ NumberedAnswer { code, first, second, third } = self.answer();
+        let own = self.call.operation.codes.contains(&code);
+        demand(own || (code == REFUSED && (1..=8).contains(&first)), || format!("answers {answer:?}"))?;
+        let unused = &[first, second, third][USED[code as usize]..];
+        demand(unused.iter().all(|&number| number == 0), || format!("answers {answer:?}, with numbers that are not used"))
+    }
+
+    /// The refusal that the arguments decide, and no other of theirs.
+    fn decided(&self) -> Result<(), String> {
+        let (wanted, given) = (self.call.refusal(), refused(self.answer()));
+        if wanted.is_some() {
+            return demand(given == wanted, || format!("answers {:?}, not refusal {wanted:?}", self.answer()));
+        }
+        let allowed = match given {
+            None => true,
+            Some(OCCUPIED) => self.call.operation.codes.contains(&NEW),
+            Some(UNSOUND) => !self.sound && !self.call.operation.is_new(),
+            Some(_) => false,
+        };
+        let state = if self.sound { "a sound state" } else { "arguments that are taken" };
+        demand(allowed, || format!("refuses {given:?} on {state}"))?;
+        let passed = self.call.operation.is_check() && given.is_none();
+        demand(self.sound || !passed, || "says that the state is sound, which it is not".to_string())
+    }
+
+    /// Whether header and lists must be as they came.
+    fn keeps_all(&self) -> bool {
+        let occupied = self.sound && refused(self.answer()) == Some(OCCUPIED);
+        self.call.refusal().is_some() || self.call.operation.only_reads() || occupied
+    }
+
+    fn header(&self) -> Result<(), String> {
+        let (before, after) = (self.call.header, self.step.window);
+        let kept = if self.call.operation.is_new() {
+            let [window_size, n, demote_at] = self.call.numbers;
+            let fresh = Header { window_size, n, demote_at, ..Header::default() };
+            after == if self.call.refusal().is_some() { Header::default() } else { fresh }
+        } else if self.keeps_all() {
+            after == before
+        } else {
+            let fixed = |header: Header| (header.window_size, header.n, header.demote_at);
+            !self.sound || fixed(after) == fixed(before)
+        };
+        demand(kept, || format!("header {after:?}"))
+    }
+
+    fn count(&self) -> Result<(), String> {
+        let NumberedStep { count, .. } = *self.step;
+        let most = match refused(self.answer()) {
+            None | Some(UNSOUND) if self.call.operation.with_list() => self.call.lengths[RETURNED],
+            _ => 0,
+        };
+        demand(count as usize <= most, || format!("count {count}, at most {most} expected"))
+    }
+
+    /// The first elements of a list that the call may have written.
+    fn free(&self, list: usize) -> usize {
+        if self.keeps_all() || !self.call.operation.writes.contains(&list) {
+            0
+        } else if list == RETURNED {
+            self.step.count as usize
+        } else {
+            self.call.named()[list]
+        }
+    }
+
+    fn lists(&self) -> Result<(), String> {
+        for (list, name) in NAMES.iter().enumerate() {
+            let free = self.free(list);
+            demand(self.memory.lists[list].unaltered_past(free), || format!("{name} changed outside its first {free}"))?;
+        }
+        Ok(())
+    }
+
+    /// An accepted new has emptied the page and block words.
+    fn emptied(&self) -> Result<(), String> {
+        if !self.call.operation.is_new() || self.call.refusal().is_some() {
+            return Ok(());
+        }
+        let named = self.call.named();
+        let empty = |list: usize| self.memory.lists[list].words_now()[..named[list]].iter().all(|&word| word == 0);
+        demand(empty(PAGES) && empty(BLOCKS), || "words are left that are not 0".to_string())
+    }
+
+    /// On a sound state: values held before and entered are those held after and handed back.
+    fn conserved(&self) -> Result<(), String> {
+        let held = |header: Header| u64::from(header.len) + u64::from(header.retired_held);
+        let entered = u64::from(self.answer().code == NEW);
+        let removed = u64::from(self.call.operation.call() == "remove" && self.answer().code == FOUND);
+        let before = held(self.call.header) + entered;
+        let after = held(self.step.window) + removed + u64::from(self.step.count);
+        demand(before == after, || format!("{before} values held and entered, {after} held and handed back"))
+    }
+
+    /// On a sound state: numbers that repeat what the call did.
+    fn numbers(&self) -> Result<(), String> {
+        let NumberedAnswer { first, second, .. } = self.answer();
+        let NumberedStep { count, window, .. } = *self.step;
+        let given = self.call.numbers[0];
+        let holds = match self.call.operation.call() {
+            "release_retired" => first == count && first <= second && second <= given,
+            "clear_bounded" => first == count && first <= given && window.len == 0,
+            "clear" => window.len == 0,
+            "remove_range" => self.call.header.len - window.len == first,
+            _ => true,
+        };
+        demand(holds, || format!("answers {:?}, count {count}, header {window:?}", self.answer()))
+    }
+
+    pub fn judge(&self) -> Result<(), String> {
+        self.readable()?;
+        self.decided()?;
+        self.header()?;
+        self.count()?;
+        self.lists()?;
+        self.emptied()?;
+        if self.sound && self.call.refusal().is_none() && refused(self.answer()).is_none() && !self.call.operation.is_new() {
+            self.conserved()?;
+            self.numbers()?;
+        }
+        Ok(())
+    }
+}

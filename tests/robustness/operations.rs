@@ -1,0 +1,238 @@
+//! The calls of the static library, one line each, and which refusal the arguments of a call decide.
+
+use crate::declared::*;
+use crate::memory::{named, Lent, BLOCKS, HEADER, LARGEST_WINDOW, LISTS, PAGES, RETURNED, SEQUENCES, VALUES};
+
+pub const NEW: u32 = 1;
+pub const REPLACED: u32 = 2;
+pub const ABSENT: u32 = 3;
+pub const FOUND: u32 = 4;
+pub const RELEASED: u32 = 6;
+pub const REFUSED: u32 = 7;
+
+pub const OCCUPIED: u32 = 4;
+pub const RANGE_COUNT: u32 = 5;
+pub const SHORT_MEMORY: u32 = 6;
+pub const UNSOUND: u32 = 7;
+pub const BUDGET: u32 = 8;
+
+pub const LARGEST_BUDGET: u32 = 256;
+
+/// What a call's numbers are.
+#[derive(Clone, Copy, PartialEq, Eq)]
+pub enum Numbers {
+    /// window_size, N, demote_at
+    Window,
+    Sequence,
+    SequenceAndValue,
+    Range,
+    Budget,
+    Cell,
+    None,
+}
+
+pub struct Operation {
+    pub name: &'static str,
+    pub make: fn(Header, &Lent, [u32; 3]) -> NumberedStep,
+    pub numbers: Numbers,
+    /// The lists that it may write; with the return list, it takes one.
+    pub writes: &'static [usize],
+    /// The codes that it answers with, but for a refusal.
+    pub codes: &'static [u32],
+}
+
+/// `new`, which takes no header.
+macro_rules! created {
+    ($call:ident) => {
+        |_, m, n| unsafe {
+            $call(
+                m.starts[SEQUENCES].cast(), m.lengths[SEQUENCES], m.starts[VALUES].cast(), m.lengths[VALUES],
+                m.starts[PAGES].cast(), m.lengths[PAGES], m.starts[BLOCKS].cast(), m.lengths[BLOCKS],
+                n[0], n[1], n[2],
+            )
+        }
+    };
+}
+
+/// A call on the header, four lists and the numbers.
+macro_rules! plain {
+    ($call:ident $(, $number:literal)*) => {
+        |w, m, _n| unsafe {
+            $call(
+                w, m.starts[SEQUENCES].cast(), m.lengths[SEQUENCES], m.starts[VALUES].cast(), m.lengths[VALUES],
+                m.starts[PAGES].cast(), m.lengths[PAGES], m.starts[BLOCKS].cast(), m.lengths[BLOCKS],
+                $(_n[$number]),*
+            )
+        }
+    };
+}
+
+/// The same with a return list.
+macro_rules! listed {
+    ($call:ident $(, $number:literal)*) => {
+        |w, m, _n| unsafe {
+            $call(
+                w, m.starts[SEQUENCES].cast(), m.lengths[SEQUENCES], m.starts[VALUES].cast(), m.lengths[VALUES],
+                m.starts[PAGES].cast(), m.lengths[PAGES], m.starts[BLOCKS].cast(), m.lengths[BLOCKS],
+                m.starts[RETURNED].cast(), m.lengths[RETURNED], $(_n[$number]),*
+            )
+        }
+    };
+}
+
+/// A host form, which takes the header's start and updates it; the return list if it has one.
+macro_rules! hosted {
+    ($call:ident, [$($returned:ident)?] $(, $number:literal)*) => {
+        |_, m, n| unsafe {
+            let header = m.starts[HEADER].cast::<Header>();
+            let NumberedOutcome { answer, count } = $call(
+                header, m.starts[SEQUENCES].cast(), m.lengths[SEQUENCES], m.starts[VALUES].cast(), m.lengths[VALUES],
+                m.starts[PAGES].cast(), m.lengths[PAGES], m.starts[BLOCKS].cast(), m.lengths[BLOCKS],
+                $(m.starts[$returned].cast(), m.lengths[$returned],)? $(n[$number]),*
+            );
+            NumberedStep { window: header.read(), answer, count }
+        }
+    };
+}
+
+const fn operation(
+    name: &'static str,
+    make: fn(Header, &Lent, [u32; 3]) -> NumberedStep,
+    numbers: Numbers,
+    writes: &'static [usize],
+    codes: &'static [u32],
+) -> Operation {
+    Operation { name, make, numbers, writes, codes }
+}
+
+const WINDOW: &[usize] = &[SEQUENCES, VALUES, PAGES, BLOCKS];
+const ALL: &[usize] = &[SEQUENCES, VALUES, PAGES, BLOCKS, RETURNED];
+const RELEASING: &[usize] = &[PAGES, BLOCKS, RETURNED];
+const HOST_WINDOW: &[usize] = &[SEQUENCES, VALUES, PAGES, BLOCKS, HEADER];
+const HOST_ALL: &[usize] = &[SEQUENCES, VALUES, PAGES, BLOCKS, RETURNED, HEADER];
+const HOST_RELEASING: &[usize] = &[PAGES, BLOCKS, RETURNED, HEADER];
+
+pub static OPERATIONS: &[Operation] = &[
+    operation("new", created!(packet_window_new), Numbers::Window, &[PAGES, BLOCKS], &[DONE]),
+    operation("get", plain!(packet_window_get, 0), Numbers::Sequence, &[], &[ABSENT, FOUND]),
+    operation("successor_after", plain!(packet_window_successor_after, 0), Numbers::Sequence, &[], &[ABSENT, FOUND]),
+    operation("first_from", plain!(packet_window_first_from, 0), Numbers::Sequence, &[], &[ABSENT, FOUND]),
+    operation("iter", plain!(packet_window_iter, 0), Numbers::Cell, &[], &[DONE, PAIR]),
+    operation("stranger", plain!(packet_window_stranger, 0, 1), Numbers::Range, &[], &[ABSENT, PAIR]),
+    operation("check", plain!(packet_window_check), Numbers::None, &[], &[DONE]),
+    operation("exchange", plain!(packet_window_exchange, 0, 1), Numbers::SequenceAndValue, &[VALUES], &[ABSENT, FOUND]),
+    operation("remove", plain!(packet_window_remove, 0), Numbers::Sequence, WINDOW, &[ABSENT, FOUND]),
+    operation("insert", listed!(packet_window_insert, 0, 1), Numbers::SequenceAndValue, ALL, &[NEW, REPLACED]),
+    operation("remove_range", listed!(packet_window_remove_range, 0, 1), Numbers::Range, ALL, &[FOUND]),
+    operation("release_retired", listed!(packet_window_release_retired, 0), Numbers::Budget, RELEASING, &[RELEASED]),
+    operation("clear", listed!(packet_window_clear), Numbers::None, RELEASING, &[DONE]),
+    operation("clear_bounded", listed!(packet_window_clear_bounded, 0), Numbers::Budget, RELEASING, &[FOUND]),
+    operation("host_insert", hosted!(packet_window_host_insert, [RETURNED], 0, 1), Numbers::SequenceAndValue, HOST_ALL, &[NEW, REPLACED]),
+    operation("host_remove", hosted!(packet_window_host_remove, [], 0), Numbers::Sequence, HOST_WINDOW, &[ABSENT, FOUND]),
+    operation("host_release_retired", hosted!(packet_window_host_release_retired, [RETURNED], 0), Numbers::Budget, HOST_RELEASING, &[RELEASED]),
+];
+
+/// The call of that name, if the library has it.
+pub fn find(name: &str) -> Option<&'static Operation> {
+    OPERATIONS.iter().find(|operation| operation.name == name)
+}
+
+/// The call of that name; if asked for, and there is one, its host form.
+pub fn form(name: &str, by_start: bool) -> Option<&'static Operation> {
+    let mut host_forms = OPERATIONS.iter().filter(|operation| by_start && operation.by_start());
+    host_forms.find(|operation| operation.call() == name).or_else(|| find(name))
+}
+
+impl Operation {
+    pub fn with_list(&self) -> bool {
+        self.writes.contains(&RETURNED)
+    }
+
+    /// It takes the header's start.
+    pub fn by_start(&self) -> bool {
+        self.writes.contains(&HEADER)
+    }
+
+    /// The name of the call that it is a form of.
+    pub fn call(&self) -> &'static str {
+        self.name.trim_start_matches("host_")
+    }
+
+    pub fn is_new(&self) -> bool {
+        self.numbers == Numbers::Window
+    }
+
+    pub fn is_check(&self) -> bool {
+        self.name == "check"
+    }
+
+    /// It takes no list to write.
+    pub fn only_reads(&self) -> bool {
+        self.writes.is_empty()
+    }
+}
+
+/// One call with all that it is given but the lists' contents.
+#[derive(Clone, Copy)]
+pub struct Call {
+    pub operation: &'static Operation,
+    pub header: Header,
+    pub lengths: [usize; LISTS],
+    pub numbers: [u32; 3],
+}
+
+/// Refusals 1 to 3.
+fn limits(window_size: u32, n: u32, demote_at: u32) -> Option<u32> {
+    if !(1..=LARGEST_WINDOW).contains(&window_size) {
+        return Some(1);
+    }
+    if !(1..=63).contains(&n) {
+        return Some(2);
+    }
+    (demote_at > n).then_some(3)
+}
+
+/// The positions of a range.
+pub fn range_count(first: u32, last: u32) -> u32 {
+    (last.wrapping_sub(first) & 0x7fff_ffff) + 1
+}
+
+impl Call {
+    /// Whether a list that the call takes is shorter than named.
+    fn short(&self) -> bool {
+        let named = self.named();
+        let taken = if self.operation.with_list() { 5 } else { 4 };
+        (0..taken).any(|list| self.lengths[list] < named[list])
+    }
+
+    /// The refusal that header, lengths and numbers decide, by document 01's 'Refusal by operation'.
+    pub fn refusal(&self) -> Option<u32> {
+        let [first, second, third] = self.numbers;
+        let Header { window_size, n, demote_at, .. } = self.header;
+        if self.operation.is_new() {
+            return limits(first, second, third).or_else(|| self.short().then_some(SHORT_MEMORY));
+        }
+        if limits(window_size, n, demote_at).is_some() || self.short() {
+            return Some(SHORT_MEMORY);
+        }
+        match self.operation.numbers {
+            Numbers::Range => (range_count(first, second) > window_size).then_some(RANGE_COUNT),
+            Numbers::Budget => (first > LARGEST_BUDGET).then_some(BUDGET),
+            _ => None,
+        }
+    }
+
+    /// The window_size that names the lengths.
+    pub fn window_size(&self) -> u32 {
+        if self.operation.is_new() {
+            self.numbers[0]
+        } else {
+            self.header.window_size
+        }
+    }
+
+    /// The lengths that are named for a call that the arguments do not refuse.
+    pub fn named(&self) -> [usize; LISTS] {
+        named(self.window_size())
+    }
+}
