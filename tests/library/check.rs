@@ -30,7 +30,7 @@ mod window;
 
 use calls::{Generator, Item, Options, Random};
 use damage::damaged;
-use declared::{packet_window_check, NumberedAnswer, DONE};
+use declared::{packet_window_check, NumberedAnswer, DONE, REFUSED};
 use library::Library;
 use line::Call;
 use reference::{call_and_drops, fresh, Window};
@@ -57,7 +57,6 @@ fn copied(library: &Library) -> State {
     }
 }
 
-const REFUSED: u32 = 7;
 const UNSOUND: u32 = 7;
 
 /// Whether check says that the state is sound; it must not write.

@@ -23,7 +23,6 @@ impl From<WindowHeader> for Header {
     }
 }
 
-const REFUSED: u32 = 7;
 const SHORT_MEMORY: u32 = 6;
 
 fn numbered(code: u32, first: u32) -> NumberedAnswer {

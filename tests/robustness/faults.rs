@@ -1,8 +1,8 @@
 //! Calls that do what no call may: the harness must name each of them.
 
-use crate::declared::{Header, NumberedAnswer, NumberedStep, DONE};
+use crate::declared::{Header, NumberedAnswer, NumberedStep, ABSENT, DONE, REFUSED};
 use crate::memory::{Lent, BLOCKS, HEADER, PAGES, RETURNED, SEQUENCES, VALUES};
-use crate::operations::{Call, ABSENT, OCCUPIED, REFUSED, SHORT_MEMORY, UNSOUND};
+use crate::operations::{Call, OCCUPIED, SHORT_MEMORY, UNSOUND};
 use crate::judge::refused;
 use std::process::Command;
 

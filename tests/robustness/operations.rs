@@ -3,13 +3,6 @@
 use crate::declared::*;
 use crate::memory::{named, Lent, BLOCKS, HEADER, LARGEST_WINDOW, LISTS, PAGES, RETURNED, SEQUENCES, VALUES};
 
-pub const NEW: u32 = 1;
-pub const REPLACED: u32 = 2;
-pub const ABSENT: u32 = 3;
-pub const FOUND: u32 = 4;
-pub const RELEASED: u32 = 6;
-pub const REFUSED: u32 = 7;
-
 pub const OCCUPIED: u32 = 4;
 pub const RANGE_COUNT: u32 = 5;
 pub const SHORT_MEMORY: u32 = 6;
