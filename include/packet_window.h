@@ -366,7 +366,8 @@ packet_window_step packet_window_check(
  * ---- host forms
  *
  * Each is the call of its name, with the same answers, refusals and writes, but the caller's header is lent by its address and updated
- * in place. A refusal leaves it as it was. The address is not NULL and is aligned; the header does not overlap a list.
+ * in place. A refusal leaves it as it was, but writes it back all the same: it must not lie in memory that is for reading only. The
+ * address is not NULL and is aligned; the header does not overlap a list.
  */
 
 packet_window_outcome packet_window_host_insert(
