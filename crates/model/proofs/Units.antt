@@ -2,9 +2,8 @@
 -- pairs left the whole budget is used, and with none left one unit for each page that held a pair and one for each pair. Assumes nothing.
 use mathlib.Core.Path.{_≡_, ap, sym, _∙_}
 use mathlib.Core.Bool.{true, false}
-use mathlib.Core.Option.{none}
 use mathlib.Core.List.{List, _++_}
-use Prim.Native.Nat.{ℕ, zero, suc, _+_, _-_, _*_, _/_, _≤_, _<_}
+use Prim.Native.Nat.{ℕ, zero, suc, _+_, _-_, _*_, _≤_, _<_}
 use native.Mathlib.Omega.{arith}
 use native.Mathlib.Decide.{decLt}
 use lib.Dec.{ltb}
@@ -17,7 +16,7 @@ use Rattle.model.specs.Demand3.{one}
 use Rattle.model.specs.Positions.{drain, inPage, pageHolds, nextPage, cursorAfter, Released, release}
 use Rattle.model.proofs.Sums.{sum-ext, sum-zero, sum-point, sum-pick, total-append, total-length, each}
 use Rattle.model.proofs.Draining.{drain-below, drain-above, drain-most, drain-rest}
-use Rattle.model.proofs.Releasing.{page-held, no-page, cursor-le, release-stops, release-visits}
+use Rattle.model.proofs.Releasing.{no-page, cursor-le, release-stops, release-visits}
 
 -- the pages that hold a pair
 abbrev pub pagesHeld : ℕ → Table → ℕ

@@ -1,7 +1,7 @@
 -- What a release costs, and how many values a clear returns. Document 01: "Each page inspected and each value released costs one
 -- unit"; "clear retires everything and releases with 256". Assumes nothing.
 use mathlib.Core.Path.{_≡_, sym, ap, _∙_}
-use mathlib.Core.Bool.{true, false, cond, _&&_}
+use mathlib.Core.Bool.{true, cond, _&&_}
 use Prim.Native.Nat.{ℕ, _+_, _*_, _≤_}
 use native.Mathlib.Omega.{arith}
 use lib.Dec.{eqb}
@@ -9,13 +9,12 @@ use lib.ListN.{length}
 use borrow.Author.Tests.{le-leb, eqb-true, eqb-false}
 use Rattle.words.specs.Cases.{bool}
 use Rattle.model.specs.Calls.{release-retired, clear, released}
-use Rattle.model.specs.Table.{sum}
 use Rattle.model.specs.Demand3.{one}
 use Rattle.model.specs.Window.{Window, capacityOf, pagesOf, isRetired, liveAt, retiredAt}
 use Rattle.model.specs.Pages.{holdsValue}
 use Rattle.model.specs.Positions.{Positions, pageHolds, moved, release as releaseAt, step}
 use Rattle.model.specs.Steps.{Release, release, releaseStep, windowStep}
-use Rattle.model.proofs.Units.{pagesHeld, pairsHeld, Costs, release-few, release-costs}
+use Rattle.model.proofs.Units.{pagesHeld, pairsHeld, release-few, release-costs}
 use Rattle.soundness.specs.Change.{Proper}
 use Rattle.soundness.specs.SumLaws.{sum-same}
 use Rattle.soundness.specs.VisitLaws.{pages-same, proper-release, release-limits}
