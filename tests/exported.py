@@ -26,7 +26,7 @@ def functions(crate):
 
 
 def exported():
-    for crate in ['exports', 'host']:
+    for crate in ['exports', 'audit_exports', 'host_exports', 'host']:
         if (ROOT / 'crates' / crate).is_dir():
             for name, head in functions(crate):
                 if 'extern "C"' in head or crate == 'host' and 'pub fn' in head:

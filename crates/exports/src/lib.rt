@@ -2,14 +2,12 @@
 // the library. ranges.rt has the calls that remove a range, clear and release.
 pub mod ranges;
 
-use checks::check;
 use points::exchange::exchange;
 use points::insert::insert;
 use points::remove::remove;
 use reads::first_from;
 use reads::get;
 use reads::iter;
-use reads::stranger::stranger;
 use reads::successor_after;
 use window::AdaptiveReceiverPacketWindow;
 use window::Created;
@@ -22,7 +20,7 @@ ghost use lib.Dec.{leb};
 ghost use lib.ListN.{length};
 ghost use Rattle.window.specs.Memory.{memory};
 ghost use Rattle.window.specs.New.{fresh};
-ghost use Rattle.model.specs.Calls.{insert as insertOf, get as getOf, exchange as exchangeOf, remove as removeOf, successor-after, first-from, iter as iterOf, stranger as strangerOf, check as checkOf};
+ghost use Rattle.model.specs.Calls.{insert as insertOf, get as getOf, exchange as exchangeOf, remove as removeOf, successor-after, first-from, iter as iterOf};
 ghost use Rattle.model.specs.Contract.{Meets};
 ghost use Rattle.calls.specs.Answers.{answerOf, stateOf};
 ghost use Rattle.exports.specs.Numbers.{answerFrom, numbersLeft, Same, Made, Creates};
@@ -73,7 +71,7 @@ pub fn numbers(answer: Answer) -> NumberedAnswer
 }
 
 // A step in numbers.
-fn in_numbers(step: Step) -> NumberedStep
+pub fn in_numbers(step: Step) -> NumberedStep
     ensures { λ r. ⌜ Same step r ⌝ }
 {
     let window = step.window;
@@ -208,36 +206,6 @@ pub extern "C" fn packet_window_iter(
         (numbersLeft r (now (sequences .entry)) (now (values .entry)) (now (pages .entry)) (now (blocks .entry)) []) ⌝ }
 {
     in_numbers(iter(w, sequences, values, pages, blocks, cell))
-}
-
-#[no_mangle]
-pub extern "C" fn packet_window_stranger(
-    w: AdaptiveReceiverPacketWindow,
-    sequences: &[u32],
-    values: &[u32],
-    pages: &[u64],
-    blocks: &[u64],
-    first: u32,
-    last: u32,
-) -> NumberedStep
-    ensures { λ r. ⌜ Meets (strangerOf first last) (stateOf w (now (sequences .entry)) (now (values .entry)) (now (pages .entry)) (now (blocks .entry))) []
-        (numbersLeft r (now (sequences .entry)) (now (values .entry)) (now (pages .entry)) (now (blocks .entry)) []) ⌝ }
-{
-    in_numbers(stranger(w, sequences, values, pages, blocks, first, last))
-}
-
-#[no_mangle]
-pub extern "C" fn packet_window_check(
-    w: AdaptiveReceiverPacketWindow,
-    sequences: &[u32],
-    values: &[u32],
-    pages: &[u64],
-    blocks: &[u64],
-) -> NumberedStep
-    ensures { λ r. ⌜ Meets checkOf (stateOf w (now (sequences .entry)) (now (values .entry)) (now (pages .entry)) (now (blocks .entry))) []
-        (numbersLeft r (now (sequences .entry)) (now (values .entry)) (now (pages .entry)) (now (blocks .entry)) []) ⌝ }
-{
-    in_numbers(check(w, sequences, values, pages, blocks))
 }
 
 #[no_mangle]

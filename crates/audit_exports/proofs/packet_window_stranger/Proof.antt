@@ -1,10 +1,10 @@
 use borrow.Author.Needs.{needs}
 use Rattle.exports.proofs.Carrying.{in-numbers}
-use Rattle.exports.proofs.packet_window_stranger.Statement.{statement}
-use Rattle.exports.proofs.packet_window_stranger.Tie as tie
-use Rattle.exports.proofs.packet_window_stranger.Reads as reads
-use Rattle.exports.proofs.packet_window_stranger.Lts as lts
+use Rattle.audit_exports.proofs.packet_window_stranger.Statement.{statement}
+use Rattle.audit_exports.proofs.packet_window_stranger.Tie as tie
+use Rattle.audit_exports.proofs.packet_window_stranger.Reads as reads
+use Rattle.audit_exports.proofs.packet_window_stranger.Lts as lts
 use Rattle.exports.proofs.in_numbers.Reads as in-numbers-reads
 use Rattle.reads.proofs.stranger.stranger.Reads as stranger-reads
 
 -- src/lib.rt:225:16

@@ -1,10 +1,10 @@
 use borrow.Author.Needs.{needs}
 use Rattle.exports.proofs.Carrying.{in-numbers}
-use Rattle.exports.proofs.packet_window_check.Statement.{statement}
-use Rattle.exports.proofs.packet_window_check.Tie as tie
-use Rattle.exports.proofs.packet_window_check.Reads as reads
-use Rattle.exports.proofs.packet_window_check.Lts as lts
+use Rattle.audit_exports.proofs.packet_window_check.Statement.{statement}
+use Rattle.audit_exports.proofs.packet_window_check.Tie as tie
+use Rattle.audit_exports.proofs.packet_window_check.Reads as reads
+use Rattle.audit_exports.proofs.packet_window_check.Lts as lts
 use Rattle.exports.proofs.in_numbers.Reads as in-numbers-reads
 use Rattle.checks.proofs.check.Reads as check-reads
 
 -- src/lib.rt:158:16

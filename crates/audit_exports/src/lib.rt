@@ -1,0 +1,42 @@
+// stranger and check in C's calling convention, as the calls of `exports`. They are compiled apart, so that get, which stranger uses,
+// keeps its one caller there.
+use checks::check;
+use exports::NumberedStep;
+use exports::in_numbers;
+use reads::stranger::stranger;
+use window::AdaptiveReceiverPacketWindow;
+ghost use mathlib.Core.List.{[]};
+ghost use Rattle.model.specs.Calls.{stranger as strangerOf, check as checkOf};
+ghost use Rattle.model.specs.Contract.{Meets};
+ghost use Rattle.calls.specs.Answers.{stateOf};
+ghost use Rattle.exports.specs.Numbers.{numbersLeft};
+
+#[no_mangle]
+pub extern "C" fn packet_window_stranger(
+    w: AdaptiveReceiverPacketWindow,
+    sequences: &[u32],
+    values: &[u32],
+    pages: &[u64],
+    blocks: &[u64],
+    first: u32,
+    last: u32,
+) -> NumberedStep
+    ensures { λ r. ⌜ Meets (strangerOf first last) (stateOf w (now (sequences .entry)) (now (values .entry)) (now (pages .entry)) (now (blocks .entry))) []
+        (numbersLeft r (now (sequences .entry)) (now (values .entry)) (now (pages .entry)) (now (blocks .entry)) []) ⌝ }
+{
+    in_numbers(stranger(w, sequences, values, pages, blocks, first, last))
+}
+
+#[no_mangle]
+pub extern "C" fn packet_window_check(
+    w: AdaptiveReceiverPacketWindow,
+    sequences: &[u32],
+    values: &[u32],
+    pages: &[u64],
+    blocks: &[u64],
+) -> NumberedStep
+    ensures { λ r. ⌜ Meets checkOf (stateOf w (now (sequences .entry)) (now (values .entry)) (now (pages .entry)) (now (blocks .entry))) []
+        (numbersLeft r (now (sequences .entry)) (now (values .entry)) (now (pages .entry)) (now (blocks .entry)) []) ⌝ }
+{
+    in_numbers(check(w, sequences, values, pages, blocks))
+}
