@@ -10,14 +10,17 @@ macro_rules! count_work {
     ($($counter:tt)*) => {};
 }
 
+mod clock;
 #[allow(dead_code)] // the comparison uses the rest
 #[path = "../library/declared.rs"]
 mod declared;
+#[allow(dead_code)] // growth.rs uses the rest
 mod subjects;
 #[allow(dead_code)] // the oracle uses the rest
 #[path = "../../oracle/target/window.rs"]
 mod window;
 
+use clock::{clock_time, processor_time};
 use std::process::ExitCode;
 use subjects::{Called, Host, Inlined, Library, Window};
 
@@ -332,33 +335,6 @@ fn work<W: Window>(windows: &mut [W], row: &Row, from: &mut u32) -> (u32, u64) {
         }
     };
     (calls, sum)
-}
-
-#[repr(C)]
-struct Timespec {
-    seconds: i64,
-    nanoseconds: i64,
-}
-
-extern "C" {
-    fn clock_gettime(clock: i32, time: *mut Timespec) -> i32;
-}
-
-/// Linux's clock of the processor time that this thread has used.
-const CLOCK_THREAD_CPUTIME_ID: i32 = 3;
-
-/// That time in nanoseconds: other work on the machine that takes the processor away does not count.
-fn processor_time() -> i64 {
-    let mut time = Timespec { seconds: 0, nanoseconds: 0 };
-    assert_eq!(unsafe { clock_gettime(CLOCK_THREAD_CPUTIME_ID, &mut time) }, 0);
-    time.seconds * 1_000_000_000 + time.nanoseconds
-}
-
-/// What the clock itself takes: the median of times in which nothing is done.
-fn clock_time() -> i64 {
-    let mut times: Vec<i64> = (0..1001).map(|_| -processor_time() + processor_time()).collect();
-    times.sort();
-    times[times.len() / 2]
 }
 
 /// Windows of one kind with their times: one, or as many as are filled for a pass.

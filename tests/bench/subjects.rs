@@ -13,6 +13,7 @@ pub trait Window {
     fn remove(&mut self, sequence: u32) -> u64;
     fn get(&self, sequence: u32) -> u64;
     fn successor_after(&self, sequence: u32) -> u64;
+    fn first_from(&self, sequence: u32) -> u64;
     fn each(&self, pair: impl FnMut(u32, u32));
     fn remove_range(&mut self, first: u32, last: u32) -> u64;
     fn release_retired(&mut self, budget: u32) -> u64;
@@ -117,6 +118,11 @@ impl Window for Library {
         number(call!(w, packet_window_successor_after, [sequences, values, pages, blocks], sequence).answer)
     }
 
+    fn first_from(&self, sequence: u32) -> u64 {
+        let w = self;
+        number(call!(w, packet_window_first_from, [sequences, values, pages, blocks], sequence).answer)
+    }
+
     fn each(&self, mut pair: impl FnMut(u32, u32)) {
         let w = self;
         let mut cell = 0;
@@ -179,6 +185,10 @@ impl Window for Host {
         self.0.successor_after(sequence)
     }
 
+    fn first_from(&self, sequence: u32) -> u64 {
+        self.0.first_from(sequence)
+    }
+
     fn each(&self, pair: impl FnMut(u32, u32)) {
         self.0.each(pair);
     }
@@ -223,6 +233,10 @@ impl Window for Inlined {
 
     fn successor_after(&self, sequence: u32) -> u64 {
         found(self.0.successor_after(sequence))
+    }
+
+    fn first_from(&self, sequence: u32) -> u64 {
+        found(self.0.first_from(sequence))
     }
 
     fn each(&self, mut pair: impl FnMut(u32, u32)) {
@@ -276,6 +290,11 @@ impl Window for Called {
     #[inline(never)]
     fn successor_after(&self, sequence: u32) -> u64 {
         self.0.successor_after(sequence)
+    }
+
+    #[inline(never)]
+    fn first_from(&self, sequence: u32) -> u64 {
+        self.0.first_from(sequence)
     }
 
     fn each(&self, mut pair: impl FnMut(u32, u32)) {

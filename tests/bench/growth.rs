@@ -1,0 +1,207 @@
+//! How the time of a call grows with the window's size and with the number of live values, library and source in turn.
+//!
+//! One line for each call in each window: the series, the call, the window's size, the live values, then the median of the
+//! rounds in nanoseconds a call, of the library (insert, remove and release_retired by their host forms) and of the source
+//! with each call behind a call boundary. What the calls answered is summed, and the sums must be equal.
+
+/// The source's work counters stay out.
+macro_rules! count_work {
+    ($($counter:tt)*) => {};
+}
+
+mod clock;
+#[allow(dead_code)] // the comparison uses the rest
+#[path = "../library/declared.rs"]
+mod declared;
+#[allow(dead_code)] // bench.rs uses the rest
+mod subjects;
+#[allow(dead_code)] // the oracle uses the rest
+#[path = "../../oracle/target/window.rs"]
+mod window;
+
+use clock::{clock_time, processor_time};
+use std::process::ExitCode;
+use subjects::{Called, Host, Window};
+
+const ROUNDS: usize = 25;
+const CALLS: u32 = 20_000;
+const LARGEST: u32 = 65536;
+/// Live values of the first series.
+const FEW: u32 = 8;
+/// Of this many sequences those are asked for that are asked for again and again.
+const NEAR: u32 = 16;
+const VISIT: u32 = 256;
+
+/// The calls of a line. Live values lie at equal distances but for InOrder, where they are the last ones inserted.
+#[derive(Clone, Copy, PartialEq)]
+enum Calls {
+    /// The oldest value removed, the next one inserted.
+    InOrder,
+    /// Of a random live value.
+    Get,
+    /// Of a random one among few live values.
+    GetNear,
+    /// From a random position.
+    SuccessorAfter,
+    FirstFrom,
+    /// A step of a list of all.
+    Iter,
+    /// With nothing retired.
+    Release,
+}
+
+const CALLS_NAMED: [(Calls, &str); 7] = [
+    (Calls::InOrder, "insert and remove"),
+    (Calls::Get, "get"),
+    (Calls::GetNear, "get, 16 sequences"),
+    (Calls::SuccessorAfter, "successor_after"),
+    (Calls::FirstFrom, "first_from"),
+    (Calls::Iter, "iter step"),
+    (Calls::Release, "release_retired"),
+];
+
+/// A window with its live values.
+#[derive(Clone, Copy)]
+struct Held {
+    size: u32,
+    live: u32,
+}
+
+impl Held {
+    fn distance(self) -> u32 {
+        self.size / self.live
+    }
+}
+
+/// A small generator: xorshift.
+struct Random(u64);
+
+impl Random {
+    fn below(&mut self, bound: u32) -> u32 {
+        self.0 ^= self.0 << 13;
+        self.0 ^= self.0 >> 7;
+        self.0 ^= self.0 << 17;
+        ((self.0 >> 33) % u64::from(bound)) as u32
+    }
+}
+
+/// The sequences that the calls ask for.
+fn asked(calls: Calls, held: Held) -> Vec<u32> {
+    let mut random = Random(0x2545_f491_4f6c_dd1d);
+    let mut one = || match calls {
+        Calls::Get => random.below(held.live) * held.distance(),
+        Calls::GetNear => {
+            let near = held.live.min(NEAR);
+            random.below(near) * (held.live / near) * held.distance()
+        }
+        _ => random.below(held.size),
+    };
+    (0..CALLS).map(|_| one()).collect()
+}
+
+/// The calls once: how many there were and the sum of their answers. `from` is the next sequence to insert.
+#[inline(never)]
+fn made<W: Window>(w: &mut W, calls: Calls, held: Held, asked: &[u32], from: &mut u32) -> (u32, u64) {
+    let mut sum = 0u64;
+    let mut add = |answer: u64| sum = sum.wrapping_mul(31).wrapping_add(answer);
+    let mut count = CALLS;
+    match calls {
+        Calls::InOrder => {
+            for sequence in *from..*from + CALLS / 2 {
+                add(w.remove(sequence - held.live));
+                add(w.insert(sequence, !sequence));
+            }
+            *from += CALLS / 2;
+        }
+        Calls::Get | Calls::GetNear => asked.iter().for_each(|&sequence| add(w.get(sequence))),
+        Calls::SuccessorAfter => asked.iter().for_each(|&sequence| add(w.successor_after(sequence))),
+        Calls::FirstFrom => asked.iter().for_each(|&sequence| add(w.first_from(sequence))),
+        Calls::Iter => {
+            count = 0;
+            while count < CALLS {
+                w.each(|sequence, value| {
+                    add(u64::from(sequence) << 32 | u64::from(value));
+                    count += 1;
+                });
+                count += 1;
+            }
+        }
+        Calls::Release => (0..CALLS).for_each(|_| add(w.release_retired(VISIT))),
+    }
+    (count, sum)
+}
+
+/// A window with the times of its rounds.
+struct Timed<W> {
+    window: W,
+    from: u32,
+    nanoseconds: Vec<f64>,
+}
+
+impl<W: Window> Timed<W> {
+    fn new(calls: Calls, held: Held) -> Self {
+        let mut window = W::new(held.size);
+        let distance = if calls == Calls::InOrder { 1 } else { held.distance() };
+        for at in 0..held.live {
+            window.insert(at * distance, at);
+        }
+        Self { window, from: held.live, nanoseconds: Vec::new() }
+    }
+
+    fn round(&mut self, calls: Calls, held: Held, asked: &[u32], clock: i64) -> u64 {
+        let start = processor_time();
+        let (count, sum) = made(&mut self.window, calls, held, asked, &mut self.from);
+        let time = processor_time() - start - clock;
+        self.nanoseconds.push(time as f64 / f64::from(count));
+        sum
+    }
+
+    /// Of the rounds but the first, in which memory is touched.
+    fn median(&mut self) -> f64 {
+        let times = &mut self.nanoseconds[1..];
+        times.sort_by(f64::total_cmp);
+        times[times.len() / 2]
+    }
+}
+
+/// One line, without its series.
+fn measured(calls: Calls, name: &str, held: Held) -> Result<String, String> {
+    let (mut library, mut source) = (Timed::<Host>::new(calls, held), Timed::<Called>::new(calls, held));
+    let (asked, clock) = (asked(calls, held), clock_time());
+    let Held { size, live } = held;
+    for _ in 0..=ROUNDS {
+        let sums = [library.round(calls, held, &asked, clock), source.round(calls, held, &asked, clock)];
+        if sums[0] != sums[1] {
+            return Err(format!("{name}, window {size}, {live} live: the answers differ, {sums:x?}"));
+        }
+    }
+    Ok(format!("{name}\t{size}\t{live}\t{:.1}\t{:.1}", library.median(), source.median()))
+}
+
+/// The series: the window's size with few live values, the size with every second position live, the live values.
+fn series() -> Vec<(&'static str, Vec<Held>)> {
+    let sizes = || (6..=16).map(|exponent| 1u32 << exponent);
+    vec![
+        ("size, 8 live", sizes().map(|size| Held { size, live: FEW }).collect()),
+        ("size, half live", sizes().map(|size| Held { size, live: size / 2 }).collect()),
+        ("live", (0..=16).map(|exponent| Held { size: LARGEST, live: 1 << exponent }).collect()),
+    ]
+}
+
+fn main() -> ExitCode {
+    println!("series\tcall\twindow\tlive\tlibrary\tsource");
+    for (name, windows) in series() {
+        for (calls, call) in CALLS_NAMED {
+            for &held in &windows {
+                match measured(calls, call, held) {
+                    Ok(line) => println!("{name}\t{line}"),
+                    Err(why) => {
+                        println!("{why}");
+                        return ExitCode::FAILURE;
+                    }
+                }
+            }
+        }
+    }
+    ExitCode::SUCCESS
+}
