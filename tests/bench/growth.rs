@@ -188,20 +188,27 @@ fn series() -> Vec<(&'static str, Vec<Held>)> {
     ]
 }
 
-fn main() -> ExitCode {
+/// All lines. The first is made once more before, as a processor that was idle is slower at first.
+fn lines() -> Result<(), String> {
+    let series = series();
+    measured(CALLS_NAMED[0].0, CALLS_NAMED[0].1, series[0].1[0])?;
     println!("series\tcall\twindow\tlive\tlibrary\tsource");
-    for (name, windows) in series() {
+    for (name, windows) in series {
         for (calls, call) in CALLS_NAMED {
             for &held in &windows {
-                match measured(calls, call, held) {
-                    Ok(line) => println!("{name}\t{line}"),
-                    Err(why) => {
-                        println!("{why}");
-                        return ExitCode::FAILURE;
-                    }
-                }
+                println!("{name}\t{}", measured(calls, call, held)?);
             }
         }
     }
-    ExitCode::SUCCESS
+    Ok(())
+}
+
+fn main() -> ExitCode {
+    match lines() {
+        Ok(()) => ExitCode::SUCCESS,
+        Err(why) => {
+            println!("{why}");
+            ExitCode::FAILURE
+        }
+    }
 }

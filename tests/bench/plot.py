@@ -95,7 +95,7 @@ def bench():
     def across(ratio):
         return left + (right - left) * math.log(ratio / low) / math.log(high / low)
 
-    picture.text(left, 26, "Time of a call: the library's through the source's", 17, bold=True)
+    picture.text(left, 26, "Time of a call of the library, as a ratio to the source's", 17, bold=True)
     picture.text(left, 47, "left of the line at 1.0 the library is faster; the source as rustc inlines it", 13)
     place = left
     picture.text(place, 72, "window size:", 13)
@@ -190,8 +190,7 @@ def growth():
         picture.text(x + width / 2, 84, heading, 14, "middle", bold=True)
         for line, (call, of_call) in enumerate(calls.items()):
             y = top + pitch * line
-            times = [float(row[kind]) for rows in of_call.values() for row in rows for kind in KINDS]
-            top_value, step = ceiling(max(times))
+            top_value, step = ceiling(max(float(row[kind]) for row in of_call[series] for kind in KINDS))
             picture.text(x + 6, y - 8, call, 13, bold=True)
             panel(picture, (x, y, width, height), of_call[series], by, ticks, top_value, step)
             picture.text(x + width / 2, y + height + 34, heading, 11, "middle")
