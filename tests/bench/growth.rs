@@ -43,6 +43,8 @@ enum Calls {
     GetNear,
     /// From a random position.
     SuccessorAfter,
+    /// The same where all other positions are retired: a window filled, cleared, then given its live values.
+    AmongRetired,
     FirstFrom,
     /// A step of a list of all.
     Iter,
@@ -50,11 +52,12 @@ enum Calls {
     Release,
 }
 
-const CALLS_NAMED: [(Calls, &str); 7] = [
+const CALLS_NAMED: [(Calls, &str); 8] = [
     (Calls::InOrder, "insert and remove"),
     (Calls::Get, "get"),
     (Calls::GetNear, "get, 16 sequences"),
     (Calls::SuccessorAfter, "successor_after"),
+    (Calls::AmongRetired, "successor_after, rest retired"),
     (Calls::FirstFrom, "first_from"),
     (Calls::Iter, "iter step"),
     (Calls::Release, "release_retired"),
@@ -114,7 +117,7 @@ fn made<W: Window>(w: &mut W, calls: Calls, held: Held, asked: &[u32], from: &mu
             *from += CALLS / 2;
         }
         Calls::Get | Calls::GetNear => asked.iter().for_each(|&sequence| add(w.get(sequence))),
-        Calls::SuccessorAfter => asked.iter().for_each(|&sequence| add(w.successor_after(sequence))),
+        Calls::SuccessorAfter | Calls::AmongRetired => asked.iter().for_each(|&sequence| add(w.successor_after(sequence))),
         Calls::FirstFrom => asked.iter().for_each(|&sequence| add(w.first_from(sequence))),
         Calls::Iter => {
             count = 0;
@@ -141,6 +144,12 @@ struct Timed<W> {
 impl<W: Window> Timed<W> {
     fn new(calls: Calls, held: Held) -> Self {
         let mut window = W::new(held.size);
+        if calls == Calls::AmongRetired {
+            for sequence in 0..held.size {
+                window.insert(sequence, sequence);
+            }
+            window.clear();
+        }
         let distance = if calls == Calls::InOrder { 1 } else { held.distance() };
         for at in 0..held.live {
             window.insert(at * distance, at);
