@@ -19,6 +19,7 @@ use window::AdaptiveReceiverPacketWindow;
 use window::Created;
 use window::answers::Answer;
 use window::answers::Step;
+ghost use Rattle.windowlines.specs.Program.{Untaken, Creates, Answers};
 
 // The header after a line, and the place after the output so far.
 pub struct Answered {
@@ -114,7 +115,9 @@ fn call(
 }
 
 // A line that is no call.
-fn unknown(w: AdaptiveReceiverPacketWindow, out: &mut [u8; 262144], at: usize) -> Answered {
+fn unknown(w: AdaptiveReceiverPacketWindow, out: &mut [u8; 262144], at: usize) -> Answered
+    ensures { λ r. ⌜ Untaken w at (now (out .entry)) r (now (out .exit)) ⌝ }
+{
     Answered {
         window: w,
         at: put_unknown(out, at),
@@ -132,7 +135,9 @@ fn create(
     out: &mut [u8; 262144],
     at: usize,
     f: Fields,
-) -> Answered {
+) -> Answered
+    ensures { λ r. ⌜ Creates f w at (now (out .entry)) r (now (out .exit)) ⌝ }
+{
     if 4096 < f.first {
         return unknown(w, out, at);
     }
@@ -233,7 +238,9 @@ pub fn answer(
     out: &mut [u8; 262144],
     at: usize,
     f: Fields,
-) -> Answered {
+) -> Answered
+    ensures { λ r. ⌜ Answers f w at (now (out .entry)) r (now (out .exit)) ⌝ }
+{
     if f.letter == b'n' {
         return create(w, sequences, values, pages, blocks, returned, out, at, f);
     }
