@@ -13,7 +13,8 @@ use Rattle.window.specs.MemoryLaws.{capacity-power, capacity-pages, page-count-
 use Rattle.window.specs.Refusals.{fits}
 use Rattle.window.specs.RefusalLaws.{Fits, fits-is}
 use Rattle.model.specs.Calls.{Call}
-use Rattle.model.specs.Contract.{State, lengthsFit, argumentRefusal, refusal}
+use Rattle.model.specs.Contract.{State, lengthsFit, refusal}
+use Rattle.model.specs.Table.{argumentRefusal}
 
 -- ---- the refusal
 

@@ -17,7 +17,8 @@ use Rattle.window.specs.declared.refusals.Verdict.the-variants.{Refuse}
 use Rattle.window.specs.Refusals.{refusalNumber, fits, fitsWithList}
 use Rattle.window.specs.RefusalLaws.{Fits, refuses, fits-with-list-is}
 use Rattle.model.specs.Calls.{Call}
-use Rattle.model.specs.Contract.{State, Left, windowOf, first, argumentRefusal, refusal, Meets}
+use Rattle.model.specs.Contract.{State, Left, windowOf, refusal, Meets}
+use Rattle.model.specs.Table.{first, argumentRefusal}
 use Rattle.model.specs.Window.{Window}
 use Rattle.model.specs.Steps.{Effect, windowStep}
 use Rattle.page_remove.specs.WroteLaws.{stretch-length}

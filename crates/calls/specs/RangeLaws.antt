@@ -4,8 +4,7 @@ use Prim.Native.Nat.{ℕ, _≤_, _<_}
 use native.Mathlib.Omega.{arith}
 use lib.Dec.{leb}
 use borrow.Author.Tests.{le-leb, lt-leb}
-use Rattle.model.specs.Table.{rangeCount}
-use Rattle.model.specs.Contract.{first}
+use Rattle.model.specs.Table.{rangeCount, first}
 
 pub count-refused : (first-one last size : ℕ) → size < rangeCount first-one last → first 5 (leb (rangeCount first-one last) size) 0 ≡ 5
 count-refused a b size l = rw (lt-leb (rangeCount a b) size l)

@@ -16,7 +16,8 @@ use Rattle.window.specs.Refusals.{refusalNumber, fits}
 use Rattle.window.specs.RefusalLaws.{refuses}
 use Rattle.model.specs.Calls.{Call, insert, get, exchange, remove, successor-after, first-from, remove-range, clear, clear-bounded, release-retired, iter, stranger, check}
 use Rattle.model.specs.Calls as model
-use Rattle.model.specs.Contract.{Meets, windowOf, argumentRefusal}
+use Rattle.model.specs.Contract.{Meets, windowOf}
+use Rattle.model.specs.Table.{argumentRefusal}
 use Rattle.model.specs.Steps.{effect, windowStep}
 use Rattle.model.specs.Sound.{Sound}
 use Rattle.calls.specs.Answers.{answerOf, replied, refusedBy, stateOf, leftOf}

@@ -17,7 +17,7 @@ use Rattle.model.specs.Calls as model
 use Rattle.model.specs.Calls.{check}
 use Rattle.model.specs.Contract.{Meets, windowOf}
 use Rattle.model.specs.Window.{Window, decode}
-use Rattle.model.specs.Steps.{effect, windowStep}
+use Rattle.model.specs.Steps.{effect, windowStep, windowDoes}
 use Rattle.model.specs.Sound.{Sound}
 use Rattle.calls.specs.Answers.{answerOf, replied, refusedBy, stateOf, leftOf}
 use Rattle.calls.specs.MeetsLaws.{read-meets}
@@ -62,7 +62,7 @@ module _ (w : AdaptiveReceiverPacketWindow) (ss vs pages blocks : List ℕ)
     (b : Bool) (test : b ≡ fits w (length ss) (length vs) (length pages) (length blocks)) (fit : not b ≡ false)
     (d : Bool) (decided : DecidesSound w ss pages blocks d) (r : Step) where
   step : (v : Window) → windowStep v check ≡ effect v model.done []
-  unfolding windowStep
+  unfolding windowDoes
   step v = refl
 
   answered : (a : Answer) → r ≡ replied w a → (Sound (windowOf (stateOf w ss vs pages blocks)) → model.done ≡ answerOf a)

@@ -10,11 +10,11 @@ use Rattle.window.specs.Memory.{capacity}
 use Rattle.window.specs.Refusals.{limits}
 use Rattle.window.specs.New.{fresh as freshHeader}
 use Rattle.model.specs.Calls.{Call, insert, successor-after, remove-range, clear, clear-bounded, release-retired, Answer, done, new, absent, found, released, refused}
-use Rattle.model.specs.Table.{pairOf, fresh, at, rangeCount, sum, heldInRange, searchFrom, tableStep}
-use Rattle.model.specs.Positions.{Positions, positions, drain, inPage, sweep, sweepRange, release, step}
+use Rattle.model.specs.Table.{pairOf, fresh, at, rangeCount, sum, heldInRange, searchFrom, tableStep, tableDoes}
+use Rattle.model.specs.Positions.{Positions, positions, drain, inPage, sweep, sweepRange, release, step, does}
 use Rattle.model.specs.Window.{Window, window, noPage, noBlock, cellOf}
 use Rattle.model.specs.Pages.{freeCell, promoted, nthSet, packed, insertPage, drainPage}
-use Rattle.model.specs.Steps.{noteNonempty, splitBlock, releasePage, nextRetired, releaseUnits, revive, removeSlots, retireInBlock, retireBlock, retireBlocks, retirePages, retireStretch, retireRange, retireAll, releasePages, insertStep, rangeStep, clearStep, clearBoundedStep, releaseStep, windowStep, Effect}
+use Rattle.model.specs.Steps.{noteNonempty, splitBlock, releasePage, nextRetired, releaseUnits, revive, removeSlots, retireInBlock, retireBlock, retireBlocks, retirePages, retireStretch, retireRange, retireAll, releasePages, insertStep, rangeStep, clearStep, clearBoundedStep, releaseStep, windowStep, windowDoes, Effect}
 
 -- a line of output: answer, len, retired_held, promotions, demotions, dropped values
 record Line : Type 0 where
@@ -56,7 +56,7 @@ listing : lines (freshWindow 64 2 1)
     (insert 5 50 true ∷ insert 69 51 true ∷ insert 6 60 true ∷ insert 7 70 true ∷ remove-range 6 7 true ∷ clear true ∷ successor-after 5 ∷ [])
     ≡ line new 1 0 0 0 [] ∷ line (refused 4) 1 0 0 0 [] ∷ line new 2 0 0 0 [] ∷ line new 3 0 1 0 []
     ∷ line (found 2) 1 0 1 1 (60 ∷ 70 ∷ []) ∷ line done 0 0 1 1 (50 ∷ []) ∷ line absent 0 0 1 1 [] ∷ []
-unfolding firstFrom firstRound bitAt withBit countBelow span wordBelow lowest capacity freshHeader rangeCount sum heldInRange searchFrom cellOf freeCell promoted nthSet packed insertPage drainPage noteNonempty splitBlock releasePage nextRetired releaseUnits revive removeSlots retireStretch retireRange retireAll insertStep rangeStep clearStep windowStep
+unfolding firstFrom firstRound bitAt withBit countBelow span wordBelow lowest capacity freshHeader rangeCount sum heldInRange searchFrom cellOf freeCell promoted nthSet packed insertPage drainPage noteNonempty splitBlock releasePage nextRetired releaseUnits revive removeSlots retireStretch retireRange retireAll insertStep rangeStep clearStep windowDoes
 listing = refl
 
 -- "At window_size 64, range 2147483647..0 is positions 63 and 0": over positions, and in the plain table
@@ -65,7 +65,7 @@ twoPairs = positions (at (at fresh 0 (some (pairOf 0 10))) 63 (some (pairOf 63 1
 
 range-over-half : (step 64 twoPairs (remove-range 2147483647 0 true) .returned ≡ 13 ∷ 10 ∷ [])
     × (tableStep 64 (twoPairs .live) (remove-range 2147483647 0 true) .answer ≡ some (found 2))
-unfolding twoPairs step tableStep capacity firstFrom firstRound rangeCount sum heldInRange drain inPage sweep sweepRange release
+unfolding twoPairs does tableDoes capacity firstFrom firstRound rangeCount sum heldInRange drain inPage sweep sweepRange release
 range-over-half = (refl, refl)
 
 edge-cases :
@@ -97,5 +97,5 @@ edge-cases :
     -- Straight after that clear, insert 100 drops nothing; insert 250 drops the values of 252..255
     × (lines (after (freshWindow 512 8 0) (insertsFrom 0 512 ++ clear true ∷ [])) (insert 100 1 true ∷ insert 250 2 true ∷ [])
     ≡ line new 1 260 8 0 [] ∷ line new 2 256 8 0 (from 252 4) ∷ [])
-unfolding limits firstFrom firstRound bitAt withBit countBelow span wordBelow lowest capacity freshHeader rangeCount sum heldInRange searchFrom cellOf freeCell promoted nthSet packed insertPage drainPage noteNonempty splitBlock releasePage nextRetired releaseUnits revive removeSlots retireInBlock retireBlock retireBlocks retirePages retireStretch retireRange retireAll releasePages insertStep rangeStep clearStep clearBoundedStep releaseStep windowStep
+unfolding limits firstFrom firstRound bitAt withBit countBelow span wordBelow lowest capacity freshHeader rangeCount sum heldInRange searchFrom cellOf freeCell promoted nthSet packed insertPage drainPage noteNonempty splitBlock releasePage nextRetired releaseUnits revive removeSlots retireInBlock retireBlock retireBlocks retirePages retireStretch retireRange retireAll releasePages insertStep rangeStep clearStep clearBoundedStep releaseStep windowDoes
 edge-cases = (refl, refl, refl, refl, refl, refl, refl, refl, refl, refl, refl, refl, refl, refl, refl)

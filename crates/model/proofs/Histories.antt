@@ -10,7 +10,7 @@ use lib.ListN.{length, take}
 use Rattle.words.specs.Cases.{bool}
 use Rattle.window.specs.Memory.{capacity}
 use Rattle.model.specs.Calls.{Call, insert, get, exchange, remove, successor-after, first-from, remove-range, clear, clear-bounded, release-retired, iter, stranger, check, Answer}
-use Rattle.model.specs.Table.{Pair, Table, fresh, tableStep}
+use Rattle.model.specs.Table.{Pair, Table, fresh, tableStep, tableDoes}
 use Rattle.model.specs.Roles.{roleOf}
 use Rattle.model.specs.Demand3.{times, copies, SamePairs, values, pairsBelow, lost, listOf, tableAfter, tableAnswers, tableEmptied, Entry, callsOf, common, answersOf, acceptedOf, handedBackOf, returnedOf, Visits, no-visit, visit, History, begun, goes-on, stateAfter, After, Agree, Demand3}
 use Rattle.model.proofs.Sums.{times-append}
@@ -19,7 +19,7 @@ use Rattle.model.proofs.Sums.{times-append}
 
 -- a call of release_retired leaves the table, and shares no answer
 release-still : (size : ℕ) (t : Table) (c : Call) → roleOf c .release ≡ true → (tableStep size t c .after ≡ t) × (roleOf c .shared ≡ false)
-unfolding tableStep
+unfolding tableDoes
 release-still size t (insert s v l) e = (cc, cc)
 release-still size t (get s) e = (cc, cc)
 release-still size t (exchange s v) e = (cc, cc)

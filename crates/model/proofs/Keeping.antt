@@ -4,7 +4,7 @@ use mathlib.Core.Path.{_≡_, refl, ap, _∙_, subst}
 use mathlib.Core.Bool.{Bool, true, false, cond}
 use mathlib.Core.Option.{Option, none, some, Option·some-injective}
 use mathlib.Core.List.{List, [], _++_}
-use Prim.Native.Nat.{ℕ, _+_, _-_, _*_, _/_, _≤_, _<_}
+use Prim.Native.Nat.{ℕ, zero, suc, _+_, _-_, _*_, _/_, _≤_, _<_}
 use native.Mathlib.Omega.{arith}
 use lib.Dec.{leb, ltb, eqb}
 use lib.ListN.{length}
@@ -13,10 +13,10 @@ use Rattle.words.specs.Cases.{bool}
 use Rattle.window.specs.Memory.{capacity, pageCount, position}
 use Rattle.window.specs.MemoryLaws.{capacity-pages, position-lt}
 use Rattle.model.specs.Calls.{Call, insert, get, exchange, remove, successor-after, first-from, remove-range, clear, clear-bounded, release-retired, iter, stranger, check, Answer, done, found, released, refused}
-use Rattle.model.specs.Table.{Pair, Table, fresh, at, held, valueIf, putAt, putAnswer, exchangeAt, removeAt, rangeCount, covers, emptyRange, heldInRange, searchFrom, Outcome, outcome, untold, tableStep, unless as unlessInTable}
+use Rattle.model.specs.Table.{Pair, Table, fresh, at, held, valueIf, putAt, putAnswer, exchangeAt, removeAt, rangeCount, covers, emptyRange, heldInRange, searchFrom, Outcome, outcome, untold, tableStep, tableDoes, argumentRefusal, first, unlessRefused as unlessInTable}
 use Rattle.model.specs.Roles.{roleOf, given, unlessRefused, ifFound}
 use Rattle.model.specs.Demand3.{times, lost}
-use Rattle.model.specs.Positions.{Positions, positions, drain, release, wipe, moved, sweepRange, Result, result, stays, unless, retiredCount, step, freshPositions}
+use Rattle.model.specs.Positions.{Positions, positions, drain, release, wipe, moved, sweepRange, Result, result, stays, unlessRefused as unlessAtPositions, retiredCount, step, does, freshPositions}
 use Rattle.model.proofs.Sums.{at-other, sum-at, weigh, weight, equals, held-le, total-times, times-append, weight-fresh, weight-same, total-lost}
 use Rattle.model.proofs.Draining.{drain-keeps, drain-inside, drain-less}
 use Rattle.model.proofs.Releasing.{release-keeps, release-less, release-halves, release-cursor}
@@ -53,6 +53,11 @@ at-apart t u p o h k q = bool (eqb q p) (λ i. rw i (rw (eqb-true q p i) k)) (λ
 pub count-some : (a b : ℕ) → 0 < rangeCount a b
 unfolding rangeCount
 count-some a b = omega arith
+
+-- a range that is not refused has at most window_size positions
+pub range-taken : (size a b : ℕ) (l : Bool) → argumentRefusal size (remove-range a b l) ≡ 0 → leb (rangeCount a b) size ≡ true
+range-taken size a b true z = bool (leb (rangeCount a b) size) (λ e. e) (λ e. absurd (omega (arith, rw e at z)))
+range-taken size a b false z = absurd (omega (arith, z))
 
 cond-none : (b : Bool) (o : Option Pair) → o ≡ none → cond b none o ≡ none
 cond-none true o e = refl
@@ -112,11 +117,26 @@ module _ (size : ℕ) where
       emptied = λ v. bool (roleOf c .emptying) (λ i. rw i (omega (arith, lost-same cap v (w .live)))) (λ i. rw i (omega arith));
     }
 
-    -- a call that refuses k unless the test holds
-    kept-unless : (c : Call) (k : ℕ) (taken : Bool) (r : Result) (o : Outcome) → ((a : Answer) → (roleOf c .shared ≡ true → some (refused k) ≡ some a) → Quiet c a)
-        → (taken ≡ true → Kept w c r o) → Kept w c (unless k taken w r) (unlessInTable k taken (w .live) o)
-    kept-unless c k true r o n h = h refl
-    kept-unless c k false r o n h = kept-still c (some (refused k)) (some (refused k)) (λ s. refl) n
+    -- a refusal accepts nothing and hands nothing back
+    quiet-refused : (c : Call) (k : ℕ) (a : Answer) → (roleOf c .shared ≡ true → _≡_ {A = Option Answer} (some (refused k)) (some a)) → Quiet c a
+    quiet-refused (insert s v l) k a h = subst (Quiet (insert s v l)) (Option·some-injective (refused k) a (h refl)) (refl, refl)
+    quiet-refused (get s) k a h = (refl, refl)
+    quiet-refused (exchange s v) k a h = subst (Quiet (exchange s v)) (Option·some-injective (refused k) a (h refl)) (refl, refl)
+    quiet-refused (remove s) k a h = subst (Quiet (remove s)) (Option·some-injective (refused k) a (h refl)) (refl, refl)
+    quiet-refused (successor-after s) k a h = (refl, refl)
+    quiet-refused (first-from s) k a h = (refl, refl)
+    quiet-refused (remove-range a b l) k x h = (refl, refl)
+    quiet-refused (clear l) k a h = (refl, refl)
+    quiet-refused (clear-bounded n l) k a h = (refl, refl)
+    quiet-refused (release-retired b l) k a h = (refl, refl)
+    quiet-refused (iter cell) k a h = (refl, refl)
+    quiet-refused (stranger a b) k x h = (refl, refl)
+    quiet-refused check k a h = (refl, refl)
+
+    -- a call that refuses k for its arguments, 0 for none
+    kept-unless : (c : Call) (k : ℕ) (r : Result) (o : Outcome) → (k ≡ 0 → Kept w c r o) → Kept w c (unlessAtPositions k w r) (unlessInTable k (w .live) o)
+    kept-unless c zero r o h = h refl
+    kept-unless c (suc k) r o h = kept-still c (some (refused (suc k))) (some (refused (suc k))) (λ s. refl) (quiet-refused c (suc k))
 
     -- a call that changes one live position, and may return retired values
     kept-at : (c : Call) (p : ℕ) (o : Option Pair) (u : Table) (l : List ℕ) (b : Answer) → roleOf c .shared ≡ true → roleOf c .emptying ≡ false → p < cap
@@ -182,8 +202,8 @@ module _ (size : ℕ) where
 
     -- ---- the calls
 
-    kept-insert : (s v : ℕ) (l : Bool) → Kept w (insert s v l) (step size w (insert s v l)) (tableStep size (w .live) (insert s v l))
-    unfolding step tableStep
+    kept-insert : (s v : ℕ) (l : Bool) → Kept w (insert s v l) (does size w (insert s v l)) (tableDoes size (w .live) (insert s v l))
+    unfolding does tableDoes
     kept-insert s v l =
         let p = position size s in
         let a = 64 * (p / 64) in
@@ -192,64 +212,53 @@ module _ (size : ℕ) where
         let b = putAnswer s (w .live p) in
         let p-lt : p < cap = position-lt size s in
         let fits : a + 64 ≤ cap = omega (arith, capacity-pages size) in
-        kept-unless (insert s v l) 6 l (result (positions (at (w .live) p o) (d .left) (w .cursor)) (some b) (d .out)) (outcome (at (w .live) p o) b)
-        (λ x h. subst (Quiet (insert s v l)) (Option·some-injective (refused 6) x (h refl)) (refl, refl))
-        (λ i. kept-at (insert s v l) p o (d .left) (d .out) b refl refl p-lt
+        kept-at (insert s v l) p o (d .left) (d .out) b refl refl p-lt
         (omega (arith, held-le o, ap held (drain-inside 64 a 64 (w .retired) p (omega arith) (omega arith) (omega arith))))
-        (drain-less 64 a 64 (w .retired)) (λ x. put-balance s v x (w .live p)) (λ x. drain-times 64 a 64 x (w .retired) fits))
+        (drain-less 64 a 64 (w .retired)) (λ x. put-balance s v x (w .live p)) (λ x. drain-times 64 a 64 x (w .retired) fits)
 
-    kept-exchange : (s v : ℕ) → Kept w (exchange s v) (step size w (exchange s v)) (tableStep size (w .live) (exchange s v))
-    unfolding step tableStep
+    kept-exchange : (s v : ℕ) → Kept w (exchange s v) (does size w (exchange s v)) (tableDoes size (w .live) (exchange s v))
+    unfolding does tableDoes
     kept-exchange s v =
         let p = position size s in
         kept-at (exchange s v) p (exchangeAt s v (w .live p)) (w .retired) [] (valueIf s (w .live p)) refl refl (position-lt size s)
         (omega (arith, f .apart p, exchange-held s v (w .live p))) (λ q. omega arith) (λ x. exchange-balance s v x (w .live p)) (λ x. omega arith)
 
-    kept-remove : (s : ℕ) → Kept w (remove s) (step size w (remove s)) (tableStep size (w .live) (remove s))
-    unfolding step tableStep
+    kept-remove : (s : ℕ) → Kept w (remove s) (does size w (remove s)) (tableDoes size (w .live) (remove s))
+    unfolding does tableDoes
     kept-remove s =
         let p = position size s in
         kept-at (remove s) p (removeAt s (w .live p)) (w .retired) [] (valueIf s (w .live p)) refl refl (position-lt size s)
         (omega (arith, f .apart p, remove-held s (w .live p))) (λ q. omega arith) (λ x. omega (arith, remove-balance s x (w .live p))) (λ x. omega arith)
 
-    kept-clear : (l : Bool) → Kept w (clear l) (step size w (clear l)) (tableStep size (w .live) (clear l))
-    unfolding step tableStep
+    kept-clear : (l : Bool) → Kept w (clear l) (does size w (clear l)) (tableDoes size (w .live) (clear l))
+    unfolding does tableDoes
     kept-clear l =
         let u = moved 0 cap (w .live) (w .retired) in
         let r = release pages 256 256 u (w .cursor) in
-        kept-unless (clear l) 6 l _ (outcome fresh done) (λ a h. (refl, refl))
-        (λ i. kept-emptying (clear l) (λ (q : ℕ). true) fresh (r .retired) (r .cursor) _ (some done) (some done) (λ a. (refl, refl)) refl (λ s. refl)
+        kept-emptying (clear l) (λ (q : ℕ). true) fresh (r .retired) (r .cursor) _ (some done) (some done) (λ a. (refl, refl)) refl (λ s. refl)
         (λ q. refl) (λ q. omega (arith, held-le (r .retired q))) (release-cursor pages 256 256 u (w .cursor) (f .cursor))
-        (λ v. omega (arith, release-times 256 v u (w .cursor) (f .cursor), all-moved v, weight-fresh cap (equals v))))
+        (λ v. omega (arith, release-times 256 v u (w .cursor) (f .cursor), all-moved v, weight-fresh cap (equals v)))
 
-    kept-bounded : (n : ℕ) (l : Bool) → Kept w (clear-bounded n l) (step size w (clear-bounded n l)) (tableStep size (w .live) (clear-bounded n l))
-    unfolding step tableStep
+    kept-bounded : (n : ℕ) (l : Bool) → Kept w (clear-bounded n l) (does size w (clear-bounded n l)) (tableDoes size (w .live) (clear-bounded n l))
+    unfolding does tableDoes
     kept-bounded n l =
         let u = moved 0 cap (w .live) (w .retired) in
         let d = drain cap 0 n u in
-        let r : Result = result (positions fresh (d .left) (w .cursor)) (some (found (length (d .out)))) (d .out) in
-        kept-unless (clear-bounded n l) 6 l (unless 8 (leb n 256) w r) (unlessInTable 8 (leb n 256) (w .live) (untold fresh)) (λ a h. (refl, refl))
-        (λ i. kept-unless (clear-bounded n l) 8 (leb n 256) r (untold fresh) (λ a h. (refl, refl))
-        (λ j. kept-emptying (clear-bounded n l) (λ (q : ℕ). true) fresh (d .left) (w .cursor) (d .out) (some (found (length (d .out)))) none (λ a. (refl, refl)) refl
+        kept-emptying (clear-bounded n l) (λ (q : ℕ). true) fresh (d .left) (w .cursor) (d .out) (some (found (length (d .out)))) none (λ a. (refl, refl)) refl
         (λ s. cc) (λ q. refl) (λ q. omega (arith, held-le (d .left q))) (f .cursor)
-        (λ v. omega (arith, drain-times cap 0 n v u (omega arith), all-moved v, weight-fresh cap (equals v)))))
+        (λ v. omega (arith, drain-times cap 0 n v u (omega arith), all-moved v, weight-fresh cap (equals v)))
 
-    kept-range : size ≤ cap → (a b : ℕ) (l : Bool) → Kept w (remove-range a b l) (step size w (remove-range a b l)) (tableStep size (w .live) (remove-range a b l))
-    unfolding step tableStep
-    kept-range small a b l =
+    kept-range : size ≤ cap → (a b : ℕ) (l : Bool) → leb (rangeCount a b) size ≡ true → Kept w (remove-range a b l) (does size w (remove-range a b l)) (tableDoes size (w .live) (remove-range a b l))
+    unfolding does tableDoes
+    kept-range small a b l j =
         let n = rangeCount a b in
         let p = position size a in
         let y = sweepRange cap p n (w .live) (w .retired) in
         let c = cond (ltb 0 (retiredCount cap w)) (w .cursor) (p / 64) in
         let r = release pages 256 256 (y .retired) c in
         let x = some (found (heldInRange cap p n (w .live))) in
-        let res : Result = result (positions (y .live) (r .retired) (r .cursor)) x (y .out ++ r .out) in
-        let o : Outcome = outcome (emptyRange cap p n (w .live)) (found (heldInRange cap p n (w .live))) in
         let p-lt : p < cap = position-lt size a in
         let c-le : c ≤ pages = bool (ltb 0 (retiredCount cap w)) (λ d. rw d (f .cursor)) (λ d. rw d (omega (arith, capacity-pages size))) in
-        kept-unless (remove-range a b l) 6 l (unless 5 (leb n size) w res) (unlessInTable 5 (leb n size) (w .live) o) (λ a h. (refl, refl))
-        (λ i. kept-unless (remove-range a b l) 5 (leb n size) res o (λ a h. (refl, refl))
-        (λ j.
         let n-le : n ≤ cap = omega (arith, leb-true n size j) in
         let n-some : 0 < n = count-some a b in
         kept-emptying (remove-range a b l) (covers cap p n) (y .live) (r .retired) (r .cursor) (y .out ++ r .out) x x (λ a. (refl, refl)) refl
@@ -262,16 +271,13 @@ module _ (size : ℕ) where
           total-times v (y .out),
           times-append v (y .out) (r .out),
           release-times 256 v (y .retired) c c-le,
-        ))))
+        ))
 
-    kept-release : (b : ℕ) (l : Bool) → Kept w (release-retired b l) (step size w (release-retired b l)) (tableStep size (w .live) (release-retired b l))
-    unfolding step tableStep
+    kept-release : (b : ℕ) (l : Bool) → Kept w (release-retired b l) (does size w (release-retired b l)) (tableDoes size (w .live) (release-retired b l))
+    unfolding does tableDoes
     kept-release b l =
         let r = release pages b b (w .retired) (w .cursor) in
-        let res : Result = result (positions (w .live) (r .retired) (r .cursor)) (some (released (length (r .out)) (r .units))) (r .out) in
-        kept-unless (release-retired b l) 6 l (unless 8 (leb b 256) w res) (unlessInTable 8 (leb b 256) (w .live) (untold (w .live))) (λ a h. (refl, refl))
-        (λ i. kept-unless (release-retired b l) 8 (leb b 256) res (untold (w .live)) (λ a h. (refl, refl))
-        (λ j. record {
+        record {
           fit = record {
             beyond = f .beyond;
             apart = λ q. omega (arith, f .apart q, release-less pages b b (w .retired) (w .cursor) q);
@@ -281,36 +287,38 @@ module _ (size : ℕ) where
           answer = λ s. cc;
           whole = λ a h v. omega (arith, release-times b v (w .retired) (w .cursor) (f .cursor));
           emptied = λ v. omega (arith, release-times b v (w .retired) (w .cursor) (f .cursor));
-        }))
+        }
 
-    kept-stranger : (a b : ℕ) → Kept w (stranger a b) (step size w (stranger a b)) (tableStep size (w .live) (stranger a b))
-    unfolding step tableStep
+    kept-stranger : (a b : ℕ) → Kept w (stranger a b) (does size w (stranger a b)) (tableDoes size (w .live) (stranger a b))
+    unfolding does tableDoes
     kept-stranger a b =
-        kept-unless (stranger a b) 5 (leb (rangeCount a b) size) (stays w none) (untold (w .live)) (λ a h. (refl, refl))
-        (λ i. kept-still (stranger a b) none none (λ s. refl) (λ a h. (refl, refl)))
+        kept-still (stranger a b) none none (λ s. refl) (λ a h. (refl, refl))
+
+    kept-does : size ≤ cap → (c : Call) → argumentRefusal size c ≡ 0 → Kept w c (does size w c) (tableDoes size (w .live) c)
+    unfolding does tableDoes
+    kept-does small (insert s v l) z = kept-insert s v l
+    kept-does small (get s) z = kept-still (get s) (some (valueIf s (w .live (position size s)))) (some (valueIf s (w .live (position size s)))) (λ s. refl) (λ a h. (refl, refl))
+    kept-does small (exchange s v) z = kept-exchange s v
+    kept-does small (remove s) z = kept-remove s
+    kept-does small (successor-after s) z =
+        let x = some (searchFrom cap (w .live) (position size (s + 1))) in
+        kept-still (successor-after s) x x (λ s. refl) (λ a h. (refl, refl))
+    kept-does small (first-from s) z = let x = some (searchFrom cap (w .live) (position size s)) in kept-still (first-from s) x x (λ s. refl) (λ a h. (refl, refl))
+    kept-does small (remove-range a b l) z = kept-range small a b l (range-taken size a b l z)
+    kept-does small (clear l) z = kept-clear l
+    kept-does small (clear-bounded n l) z = kept-bounded n l
+    kept-does small (release-retired b l) z = kept-release b l
+    kept-does small (iter cell) z = kept-still (iter cell) none none (λ s. refl) (λ a h. (refl, refl))
+    kept-does small (stranger a b) z = kept-stranger a b
+    kept-does small check z = kept-still check none none (λ s. refl) (λ a h. (refl, refl))
 
     -- every call at fit positions keeps what demand 3 asks
     pub call-keeps : size ≤ cap → (c : Call) → Kept w c (step size w c) (tableStep size (w .live) c)
-    unfolding step tableStep
-    call-keeps small (insert s v l) = kept-insert s v l
-    call-keeps small (get s) = kept-still (get s) (some (valueIf s (w .live (position size s)))) (some (valueIf s (w .live (position size s)))) (λ s. refl) (λ a h. (refl, refl))
-    call-keeps small (exchange s v) = kept-exchange s v
-    call-keeps small (remove s) = kept-remove s
-    call-keeps small (successor-after s) =
-        let x = some (searchFrom cap (w .live) (position size (s + 1))) in
-        kept-still (successor-after s) x x (λ s. refl) (λ a h. (refl, refl))
-    call-keeps small (first-from s) = let x = some (searchFrom cap (w .live) (position size s)) in kept-still (first-from s) x x (λ s. refl) (λ a h. (refl, refl))
-    call-keeps small (remove-range a b l) = kept-range small a b l
-    call-keeps small (clear l) = kept-clear l
-    call-keeps small (clear-bounded n l) = kept-bounded n l
-    call-keeps small (release-retired b l) = kept-release b l
-    call-keeps small (iter cell) = kept-still (iter cell) none none (λ s. refl) (λ a h. (refl, refl))
-    call-keeps small (stranger a b) = kept-stranger a b
-    call-keeps small check = kept-still check none none (λ s. refl) (λ a h. (refl, refl))
+    call-keeps small c = kept-unless c (argumentRefusal size c) (does size w c) (tableDoes size (w .live) c) (kept-does small c)
 
     -- a call of release_retired takes out half its budget at least, or all
     pub call-halves : (b : ℕ) → b ≤ 256 → retiredCount cap (step size w (release-retired b true) .after) ≤ retiredCount cap w - b / 2
-    unfolding step
+    unfolding does
     call-halves b h =
         let z = release-halves pages b b (w .retired) (w .cursor) (f .cursor) (omega arith) in
         rw (le-leb b 256 h) (rw (← capacity-pages size) at z)

@@ -12,7 +12,7 @@ use Rattle.model.specs.Calls.{Call, insert, get, exchange, remove, succe
 use Rattle.model.specs.Table.{Pair, sum, held, rangeCount}
 use Rattle.model.specs.Roles.{roleOf}
 use Rattle.model.specs.Demand3.{SamePairs, values, pairsBelow, Entry, callsOf, common, History, Demand3}
-use Rattle.model.specs.Positions.{Positions, retiredCount, step, freshPositions}
+use Rattle.model.specs.Positions.{Positions, retiredCount, step, does, freshPositions}
 use Rattle.model.specs.Refinement.{Shows, Refines, Refinement, Fresh}
 use Rattle.model.proofs.Sums.{length-values, length-pairs}
 use Rattle.model.proofs.Keeping.{Fit, fresh-fit, call-keeps}
@@ -20,7 +20,7 @@ use Rattle.model.proofs.Carrying.{carries}
 
 -- the positions know each answer that A and B share
 shared-known : (size : ℕ) (w : Positions) (c : Call) → roleOf c .shared ≡ true → (a : Answer) × (step size w c .answer ≡ some a)
-unfolding step
+unfolding does
 shared-known size w (insert s v true) e = (_, refl)
 shared-known size w (insert s v false) e = (_, refl)
 shared-known size w (get s) e = (_, refl)

@@ -15,7 +15,7 @@ use Rattle.window.specs.MemoryLaws.{position-lt}
 use Rattle.model.specs.Calls.{stranger, Answer, done, new, replaced, absent, found, pair, released, refused}
 use Rattle.model.specs.Table.{Pair, pairOf, rangeCount, covers}
 use Rattle.model.specs.Window.{Window, sizeOf, capacityOf, liveAt}
-use Rattle.model.specs.Steps.{isStranger, pairAnswer, strangerIn, windowStep}
+use Rattle.model.specs.Steps.{isStranger, pairAnswer, strangerIn, windowStep, windowDoes}
 use Rattle.model.specs.Strangers.{StrangerAt, Tells}
 
 -- the pair of an answer, if it is one
@@ -77,5 +77,5 @@ module _ (w : Window) (first last : ℕ) where
 
   -- the call, where its count is not refused
   pub stranger-tells : leb (rangeCount first last) (sizeOf w) ≡ true → Tells w first last (windowStep w (stranger first last) .answer)
-  unfolding windowStep
+  unfolding windowDoes
   stranger-tells taken = rw taken tells

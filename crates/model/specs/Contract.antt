@@ -1,16 +1,15 @@
 -- The contract of every exported call, as one record: what the call finds and what it leaves. A function's `ensures` cites it at
 -- its own call. Document 01, 'Refusal by operation' and 'What a contract here must say'. Definitions only. Assumes nothing.
 use mathlib.Core.Path.{_≡_}
-use mathlib.Core.Bool.{Bool, cond}
+use mathlib.Core.Bool.{Bool}
 use mathlib.Core.List.{List}
 use Prim.Native.Nat.{ℕ, _*_, _≤_}
-use lib.Dec.{leb}
 use lib.ListN.{length, take, drop}
 use Rattle.window.specs.declared.AdaptiveReceiverPacketWindow.{AdaptiveReceiverPacketWindow}
 use Rattle.window.specs.Memory.{Memory, capacity, pageCount, blockCount}
 use Rattle.window.specs.Refusals.{fits}
-use Rattle.model.specs.Calls.{Call, insert, get, exchange, remove, successor-after, first-from, remove-range, clear, clear-bounded, release-retired, iter, stranger, check, Answer, refused}
-use Rattle.model.specs.Table.{rangeCount}
+use Rattle.model.specs.Calls.{Call, check, Answer, refused}
+use Rattle.model.specs.Table.{first, argumentRefusal}
 use Rattle.model.specs.Window.{Window, decode}
 use Rattle.model.specs.Steps.{windowStep}
 use Rattle.model.specs.Sound.{Sound}
@@ -30,28 +29,6 @@ pub record Left : Type 0 where
   pub count : ℕ
   pub state : State
   pub list : List ℕ
-
--- ---- refusals that are decided before the window is looked at; 0 for none
-
-abbrev pub first : ℕ → Bool → ℕ → ℕ
-first k taken rest = cond taken rest k
-
--- a return list of fewer than 384 places is refused 6; "remove_range, stranger: then 5 for a count above window_size";
--- "release_retired, clear_bounded: then 8 for a number above 256". (Insert's 4 is decided by the window.)
-abbrev pub argumentRefusal : ℕ → Call → ℕ
-argumentRefusal size (insert s v listed) = first 6 listed 0
-argumentRefusal size (get s) = 0
-argumentRefusal size (exchange s v) = 0
-argumentRefusal size (remove s) = 0
-argumentRefusal size (successor-after s) = 0
-argumentRefusal size (first-from s) = 0
-argumentRefusal size (remove-range a b listed) = first 6 listed (first 5 (leb (rangeCount a b) size) 0)
-argumentRefusal size (clear listed) = first 6 listed 0
-argumentRefusal size (clear-bounded n listed) = first 6 listed (first 8 (leb n 256) 0)
-argumentRefusal size (release-retired b listed) = first 6 listed (first 8 (leb b 256) 0)
-argumentRefusal size (iter cell) = 0
-argumentRefusal size (stranger a b) = first 5 (leb (rangeCount a b) size) 0
-argumentRefusal size check = 0
 
 -- "All others: first 6, a header outside 1 to 3's limits or a list shorter than named."
 abbrev pub lengthsFit : State → Bool

@@ -10,7 +10,7 @@ use lib.ListN.{length}
 use Rattle.words.specs.First.{firstRound}
 use Rattle.window.specs.Memory.{capacity, pageCount, position}
 use Rattle.model.specs.Calls.{Call, insert, get, exchange, remove, successor-after, first-from, remove-range, clear, clear-bounded, release-retired, iter, stranger, check, Answer, done, found, released, refused}
-use Rattle.model.specs.Table.{Pair, Table, fresh, at, held, valueIf, putAt, putAnswer, exchangeAt, removeAt, rangeCount, within, sum, heldInRange, searchFrom}
+use Rattle.model.specs.Table.{Pair, Table, fresh, at, held, valueIf, putAt, putAnswer, exchangeAt, removeAt, rangeCount, argumentRefusal, within, sum, heldInRange, searchFrom}
 
 pub record Positions : Type 0 where
   pub live : Table
@@ -134,8 +134,10 @@ result w a l = record { after = w; answer = a; returned = l }
 abbrev pub stays : Positions → Option Answer → Result
 stays w a = result w a []
 
-abbrev pub unless : ℕ → Bool → Positions → Result → Result
-unless k taken w r = cond taken r (stays w (some (refused k)))
+-- a refusal k for arguments, with no step; 0 is none
+abbrev pub unlessRefused : ℕ → Positions → Result → Result
+unlessRefused zero w r = r
+unlessRefused (suc k) w r = stays w (some (refused (suc k)))
 
 abbrev pub retiredCount : ℕ → Positions → ℕ
 retiredCount cap w = sum cap (λ (q : ℕ). held (w .retired q))
@@ -153,34 +155,37 @@ rangeStep size w start count =
     (cond (ltb 0 (retiredCount (capacity size) w)) (w .cursor) (start / 64)) (s .out)
     (found (heldInRange (capacity size) start count (w .live)))
 
-unfoldable pub step : ℕ → Positions → Call → Result
-step size w (insert s v listed) =
+-- what a call does that is not refused for its arguments
+unfoldable pub does : ℕ → Positions → Call → Result
+does size w (insert s v listed) =
     let p = position size s in
     let d = drain 64 (64 * (p / 64)) 64 (w .retired) in
-    unless 6 listed w (result (positions (at (w .live) p (putAt s v (w .live p))) (d .left) (w .cursor)) (some (putAnswer s (w .live p))) (d .out))
-step size w (get s) = stays w (some (valueIf s (w .live (position size s))))
-step size w (exchange s v) =
+    result (positions (at (w .live) p (putAt s v (w .live p))) (d .left) (w .cursor)) (some (putAnswer s (w .live p))) (d .out)
+does size w (get s) = stays w (some (valueIf s (w .live (position size s))))
+does size w (exchange s v) =
     let p = position size s in
     stays (positions (at (w .live) p (exchangeAt s v (w .live p))) (w .retired) (w .cursor)) (some (valueIf s (w .live p)))
-step size w (remove s) =
+does size w (remove s) =
     let p = position size s in
     stays (positions (at (w .live) p (removeAt s (w .live p))) (w .retired) (w .cursor)) (some (valueIf s (w .live p)))
-step size w (successor-after s) = stays w (some (searchFrom (capacity size) (w .live) (position size (s + 1))))
-step size w (first-from s) = stays w (some (searchFrom (capacity size) (w .live) (position size s)))
-step size w (remove-range a b listed) =
-    unless 6 listed w (unless 5 (leb (rangeCount a b) size) w (rangeStep size w (position size a) (rangeCount a b)))
-step size w (clear listed) =
-    unless 6 listed w (thenRelease (pageCount size) fresh (moved 0 (capacity size) (w .live) (w .retired)) (w .cursor) [] done)
-step size w (clear-bounded n listed) =
+does size w (successor-after s) = stays w (some (searchFrom (capacity size) (w .live) (position size (s + 1))))
+does size w (first-from s) = stays w (some (searchFrom (capacity size) (w .live) (position size s)))
+does size w (remove-range a b listed) =
+    rangeStep size w (position size a) (rangeCount a b)
+does size w (clear listed) =
+    thenRelease (pageCount size) fresh (moved 0 (capacity size) (w .live) (w .retired)) (w .cursor) [] done
+does size w (clear-bounded n listed) =
     let d = drain (capacity size) 0 n (moved 0 (capacity size) (w .live) (w .retired)) in
-    unless 6 listed w (unless 8 (leb n 256) w (result (positions fresh (d .left) (w .cursor)) (some (found (length (d .out)))) (d .out)))
-step size w (release-retired b listed) =
+    result (positions fresh (d .left) (w .cursor)) (some (found (length (d .out)))) (d .out)
+does size w (release-retired b listed) =
     let r = release (pageCount size) b b (w .retired) (w .cursor) in
-    unless 6 listed w (unless 8 (leb b 256) w
-    (result (positions (w .live) (r .retired) (r .cursor)) (some (released (length (r .out)) (r .units))) (r .out)))
-step size w (iter cell) = stays w none
-step size w (stranger a b) = unless 5 (leb (rangeCount a b) size) w (stays w none)
-step size w check = stays w none
+    result (positions (w .live) (r .retired) (r .cursor)) (some (released (length (r .out)) (r .units))) (r .out)
+does size w (iter cell) = stays w none
+does size w (stranger a b) = stays w none
+does size w check = stays w none
+
+abbrev pub step : ℕ → Positions → Call → Result
+step size w c = unlessRefused (argumentRefusal size c) w (does size w c)
 
 abbrev pub freshPositions : Positions
 freshPositions = positions fresh fresh 0

@@ -11,7 +11,7 @@ use Rattle.words.specs.Word.{isSet, withBit, setBit, clearBit, wordOf, span}
 use Rattle.window.specs.declared.AdaptiveReceiverPacketWindow.{AdaptiveReceiverPacketWindow}
 use Rattle.window.specs.Memory.{position}
 use Rattle.model.specs.Calls.{Call, insert, get, exchange, remove, successor-after, first-from, remove-range, clear, clear-bounded, release-retired, iter, stranger, check, Answer, done, new, replaced, absent, found, pair, released, refused}
-use Rattle.model.specs.Table.{Pair, valueIf, rangeCount, within, covers, sum, heldInRange, searchFrom}
+use Rattle.model.specs.Table.{Pair, valueIf, rangeCount, argumentRefusal, within, covers, sum, heldInRange, searchFrom}
 use Rattle.model.specs.Demand3.{one}
 use Rattle.model.specs.Window.{Page, Block, Window, window, upd, sizeOf, capacityOf, pagesOf, blocksOf, cellOf, isRetired, liveAt, iterStep}
 use Rattle.model.specs.Pages.{valuesIn, holdsValue, setValue, takeCell, unlessEmptied, demotes, afterRemoval, insertPage, drainPage}
@@ -290,8 +290,10 @@ pub record Effect : Type 0 where
 abbrev pub effect : Window → Answer → List ℕ → Effect
 effect w a l = record { after = w; answer = a; returned = l }
 
-abbrev pub unless : ℕ → Bool → Window → Effect → Effect
-unless k taken w e = cond taken e (effect w (refused k) [])
+-- a refusal k for arguments, with no step; 0 is none
+abbrev pub unlessRefused : ℕ → Window → Effect → Effect
+unlessRefused zero w e = e
+unlessRefused (suc k) w e = effect w (refused (suc k)) []
 
 -- the page of a sequence, and what stands at its position
 abbrev pub pageOf : Window → ℕ → ℕ
@@ -362,19 +364,21 @@ clearBoundedStep w n = let r = releasePages (pagesOf w) 0 n (retireAll w) in eff
 unfoldable pub releaseStep : Window → ℕ → Effect
 releaseStep w b = let r = release b w in effect (r .after) (released (length (r .out)) (r .units)) (r .out)
 
--- the refusals for arguments, in document 01's order, and then the call
-unfoldable pub windowStep : Window → Call → Effect
-windowStep w (insert s v listed) = unless 6 listed w (insertStep w s v)
-windowStep w (get s) = effect w (valueIf s (liveHere w s)) []
-windowStep w (exchange s v) = exchangeStep w s v
-windowStep w (remove s) = removeStep w s
-windowStep w (successor-after s) = effect w (searchFrom (capacityOf w) (liveAt w) (position (sizeOf w) (s + 1))) []
-windowStep w (first-from s) = effect w (searchFrom (capacityOf w) (liveAt w) (position (sizeOf w) s)) []
-windowStep w (remove-range a b listed) =
-    unless 6 listed w (unless 5 (leb (rangeCount a b) (sizeOf w)) w (rangeStep w (position (sizeOf w) a) (rangeCount a b)))
-windowStep w (clear listed) = unless 6 listed w (clearStep w)
-windowStep w (clear-bounded n listed) = unless 6 listed w (unless 8 (leb n 256) w (clearBoundedStep w n))
-windowStep w (release-retired b listed) = unless 6 listed w (unless 8 (leb b 256) w (releaseStep w b))
-windowStep w (iter cell) = effect w (iterStep w cell) []
-windowStep w (stranger a b) = unless 5 (leb (rangeCount a b) (sizeOf w)) w (effect w (strangerIn w a b) [])
-windowStep w check = effect w done []
+-- what a call does that is not refused for its arguments
+unfoldable pub windowDoes : Window → Call → Effect
+windowDoes w (insert s v listed) = insertStep w s v
+windowDoes w (get s) = effect w (valueIf s (liveHere w s)) []
+windowDoes w (exchange s v) = exchangeStep w s v
+windowDoes w (remove s) = removeStep w s
+windowDoes w (successor-after s) = effect w (searchFrom (capacityOf w) (liveAt w) (position (sizeOf w) (s + 1))) []
+windowDoes w (first-from s) = effect w (searchFrom (capacityOf w) (liveAt w) (position (sizeOf w) s)) []
+windowDoes w (remove-range a b listed) = rangeStep w (position (sizeOf w) a) (rangeCount a b)
+windowDoes w (clear listed) = clearStep w
+windowDoes w (clear-bounded n listed) = clearBoundedStep w n
+windowDoes w (release-retired b listed) = releaseStep w b
+windowDoes w (iter cell) = effect w (iterStep w cell) []
+windowDoes w (stranger a b) = effect w (strangerIn w a b) []
+windowDoes w check = effect w done []
+
+abbrev pub windowStep : Window → Call → Effect
+windowStep w c = unlessRefused (argumentRefusal (sizeOf w) c) w (windowDoes w c)

@@ -98,6 +98,28 @@ searchFrom cap t p =
     let q = firstRound (λ (r : ℕ). holds (t r)) cap p in
     cond (ltb q cap) (sequenceOf (t q)) absent
 
+-- ---- refusals that are decided before the window is looked at; 0 for none
+
+abbrev pub first : ℕ → Bool → ℕ → ℕ
+first k taken rest = cond taken rest k
+
+-- a return list of fewer than 384 places is refused 6; "remove_range, stranger: then 5 for a count above window_size";
+-- "release_retired, clear_bounded: then 8 for a number above 256". (Insert's 4 is decided by the window.)
+abbrev pub argumentRefusal : ℕ → Call → ℕ
+argumentRefusal size (insert s v listed) = first 6 listed 0
+argumentRefusal size (get s) = 0
+argumentRefusal size (exchange s v) = 0
+argumentRefusal size (remove s) = 0
+argumentRefusal size (successor-after s) = 0
+argumentRefusal size (first-from s) = 0
+argumentRefusal size (remove-range a b listed) = first 6 listed (first 5 (leb (rangeCount a b) size) 0)
+argumentRefusal size (clear listed) = first 6 listed 0
+argumentRefusal size (clear-bounded n listed) = first 6 listed (first 8 (leb n 256) 0)
+argumentRefusal size (release-retired b listed) = first 6 listed (first 8 (leb b 256) 0)
+argumentRefusal size (iter cell) = 0
+argumentRefusal size (stranger a b) = first 5 (leb (rangeCount a b) size) 0
+argumentRefusal size check = 0
+
 -- ---- the calls
 
 -- the table after a call; the call's answer, none if it is not in the table
@@ -112,31 +134,31 @@ outcome t a = record { after = t; answer = some a }
 abbrev pub untold : Table → Outcome
 untold t = record { after = t; answer = none }
 
--- a call that refuses k, with no step, unless the test holds
-abbrev pub unless : ℕ → Bool → Table → Outcome → Outcome
-unless k taken t o = cond taken o (outcome t (refused k))
+-- "It refuses for arguments as 'Refusal by operation' says, with no step": k is the number, 0 for none
+abbrev pub unlessRefused : ℕ → Table → Outcome → Outcome
+unlessRefused zero t o = o
+unlessRefused (suc k) t o = outcome t (refused (suc k))
 
-unfoldable pub tableStep : ℕ → Table → Call → Outcome
-tableStep size t (insert s v listed) =
-    unless 6 listed t (outcome (at t (position size s) (putAt s v (t (position size s)))) (putAnswer s (t (position size s))))
-tableStep size t (get s) = outcome t (valueIf s (t (position size s)))
-tableStep size t (exchange s v) = outcome (at t (position size s) (exchangeAt s v (t (position size s)))) (valueIf s (t (position size s)))
-tableStep size t (remove s) = outcome (at t (position size s) (removeAt s (t (position size s)))) (valueIf s (t (position size s)))
+-- what a call does that is not refused for its arguments
+unfoldable pub tableDoes : ℕ → Table → Call → Outcome
+tableDoes size t (insert s v listed) = outcome (at t (position size s) (putAt s v (t (position size s)))) (putAnswer s (t (position size s)))
+tableDoes size t (get s) = outcome t (valueIf s (t (position size s)))
+tableDoes size t (exchange s v) = outcome (at t (position size s) (exchangeAt s v (t (position size s)))) (valueIf s (t (position size s)))
+tableDoes size t (remove s) = outcome (at t (position size s) (removeAt s (t (position size s)))) (valueIf s (t (position size s)))
 -- "successor_after looks from the next position round to its own, last of all"
-tableStep size t (successor-after s) = outcome t (searchFrom (capacity size) t (position size (s + 1)))
+tableDoes size t (successor-after s) = outcome t (searchFrom (capacity size) t (position size (s + 1)))
 -- "first_from begins at the sequence's own position"
-tableStep size t (first-from s) = outcome t (searchFrom (capacity size) t (position size s))
--- "remove_range, stranger: then 5 for a count above window_size"
-tableStep size t (remove-range a b listed) =
-    unless 6 listed t
-    (unless 5 (leb (rangeCount a b) size) t
-    (outcome (emptyRange (capacity size) (position size a) (rangeCount a b) t) (found (heldInRange (capacity size) (position size a) (rangeCount a b) t))))
+tableDoes size t (first-from s) = outcome t (searchFrom (capacity size) t (position size s))
+tableDoes size t (remove-range a b listed) =
+    outcome (emptyRange (capacity size) (position size a) (rangeCount a b) t) (found (heldInRange (capacity size) (position size a) (rangeCount a b) t))
 -- "clear, clear_bounded: empty all"
-tableStep size t (clear listed) = unless 6 listed t (outcome fresh done)
--- "release_retired, clear_bounded: then 8 for a number above 256"
-tableStep size t (clear-bounded n listed) = unless 6 listed t (unless 8 (leb n 256) t (untold fresh))
+tableDoes size t (clear listed) = outcome fresh done
+tableDoes size t (clear-bounded n listed) = untold fresh
 -- "release_retired, iter, stranger, check: no step"
-tableStep size t (release-retired b listed) = unless 6 listed t (unless 8 (leb b 256) t (untold t))
-tableStep size t (iter cell) = untold t
-tableStep size t (stranger a b) = unless 5 (leb (rangeCount a b) size) t (untold t)
-tableStep size t check = untold t
+tableDoes size t (release-retired b listed) = untold t
+tableDoes size t (iter cell) = untold t
+tableDoes size t (stranger a b) = untold t
+tableDoes size t check = untold t
+
+abbrev pub tableStep : ℕ → Table → Call → Outcome
+tableStep size t c = unlessRefused (argumentRefusal size c) t (tableDoes size t c)

@@ -16,7 +16,7 @@ use Rattle.model.specs.Calls.{exchange, refused, absent}
 use Rattle.model.specs.Table.{valueIf}
 use Rattle.model.specs.Window.{Page, Window, decode, liveAt, standsAt, cellOf}
 use Rattle.model.specs.Pages.{setValue}
-use Rattle.model.specs.Steps.{effect, finds, windowStep, exchangeStep, withPage}
+use Rattle.model.specs.Steps.{effect, finds, windowStep, windowDoes, exchangeStep, withPage}
 use Rattle.model.specs.Sound.{Sound}
 use Rattle.pages.specs.declared.PageWords.{PageWords}
 use Rattle.pages.specs.declared.find.Read.{Read}
@@ -82,7 +82,7 @@ module _ (h : AdaptiveReceiverPacketWindow) (ss vs pages blocks : List ℕ) (s p
     -- the page is retired: nothing is found
     pub exchange-none : r ≡ 0 → Sound (decode h (memory ss vs pages blocks))
         → windowStep (decode h (memory ss vs pages blocks)) (exchange s v) ≡ effect (decode h (memory ss vs pages blocks)) absent []
-    unfolding windowStep exchangeStep decode
+    unfolding windowDoes exchangeStep decode
     exchange-none z ok = rw (gone z ok)
 
     -- the page after it
@@ -121,7 +121,7 @@ module _ (h : AdaptiveReceiverPacketWindow) (ss vs pages blocks : List ℕ) (s p
 
       pub exchange-writes : (a : Answer) → answerOf a ≡ readAnswer x
           → Writes (exchange s v) (stateOf h ss vs pages blocks) [] (leftOf (replied h a) ss (withPart (p / 64) vs ys) pages blocks [])
-      unfolding windowStep exchangeStep
+      unfolding windowDoes exchangeStep
       exchange-writes a is = record {
         sound = λ ok. record { answer = is ∙ answers ok; window = alters ok; returned = refl; count = refl };
         occupied = λ ok q. absurd (no-refusal x 4 (sym is ∙ q));

@@ -14,7 +14,7 @@ use Rattle.window.specs.RefusalLaws.{Fits}
 use Rattle.model.specs.Calls.{insert}
 use Rattle.model.specs.Window.{Window, decode, isRetired}
 use Rattle.model.specs.Pages.{insertPage}
-use Rattle.model.specs.Steps.{Returned, returnedBy, Effect, effect, windowStep, insertStep, revive}
+use Rattle.model.specs.Steps.{Returned, returnedBy, Effect, effect, windowStep, windowDoes, insertStep, revive}
 use Rattle.model.specs.Sound.{Sound}
 use Rattle.model.specs.Contract.{SamePast, SameLengths}
 use Rattle.pages.specs.PartLaws.{with-part-length, part-past}
@@ -54,7 +54,7 @@ module _ (h : AdaptiveReceiverPacketWindow) (ss vs pages blocks l : List ℕ) (s
   step-is : windowStep (decode h (memory ss vs pages blocks)) (insert s v (leb 384 (length l)))
       ≡ effect (afterPut (revive (decode h (memory ss vs pages blocks)) (p / 64) .after) (p / 64) (insertPage (h .n) (revive (decode h (memory ss vs pages blocks)) (p / 64) .after .pages (p / 64)) s v))
       (insertPage (h .n) (revive (decode h (memory ss vs pages blocks)) (p / 64) .after .pages (p / 64)) s v .answer) (revive (decode h (memory ss vs pages blocks)) (p / 64) .out)
-  unfolding windowStep insertStep decode
+  unfolding windowDoes insertStep decode
   step-is =
       rw (le-leb 384 (length l) long)
       (ap (λ (q : ℕ).

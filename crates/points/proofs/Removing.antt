@@ -17,7 +17,7 @@ use Rattle.model.specs.Calls.{remove, absent, found}
 use Rattle.model.specs.Table.{Pair, valueIf}
 use Rattle.model.specs.Window.{Page, Window, decode, standsAt, cellOf}
 use Rattle.model.specs.Pages.{takeCell, demotes, afterRemoval, holdsValue}
-use Rattle.model.specs.Steps.{effect, finds, windowStep, removeStep, withPage, countDemotion, noteNonempty, putPage, subLive}
+use Rattle.model.specs.Steps.{effect, finds, windowStep, windowDoes, removeStep, withPage, countDemotion, noteNonempty, putPage, subLive}
 use Rattle.model.specs.Sound.{Sound}
 use Rattle.pages.specs.declared.PageWords.{PageWords}
 use Rattle.pages.specs.declared.find.Read.the-variants as read
@@ -86,7 +86,7 @@ module _ (h : AdaptiveReceiverPacketWindow) (ss vs pages blocks : List ℕ) (s p
   -- the page is retired: nothing is found
   pub remove-none : r ≡ 0 → Sound (decode h (memory ss vs pages blocks))
       → windowStep (decode h (memory ss vs pages blocks)) (remove s) ≡ effect (decode h (memory ss vs pages blocks)) absent []
-  unfolding windowStep removeStep decode
+  unfolding windowDoes removeStep decode
   remove-none z ok = rw (gone h ss vs pages blocks s p r e reach z ok)
 
   -- what the step does, by what the page gives
@@ -134,7 +134,7 @@ module _ (h : AdaptiveReceiverPacketWindow) (ss vs pages blocks : List ℕ) (s p
     -- ---- the sequence is absent
     pub absent-writes : readAnswer (x .answer) ≡ absent
         → Writes (remove s) (stateOf h ss vs pages blocks) [] (leftOf (replied h Absent) (withPart (p / 64) ss xs) (withPart (p / 64) vs ys) pages blocks [])
-    unfolding windowStep removeStep
+    unfolding windowDoes removeStep
     absent-writes a = record {
       sound = λ ok. record { answer = sym a ∙ answered ok ∙ sym (step-answer n ok); window = alters ok; returned = refl; count = refl };
       occupied = λ ok q. absurd (no-refusal read.Absent 4 q);
@@ -184,7 +184,7 @@ module _ (h : AdaptiveReceiverPacketWindow) (ss vs pages blocks : List ℕ) (s p
 
       pub found-writes : readAnswer (x .answer) ≡ found v
           → Writes (remove s) (stateOf h ss vs pages blocks) [] (leftOf (replied win (Found v)) (withPart (p / 64) ss xs) (withPart (p / 64) vs ys) pages′ blocks′ [])
-      unfolding windowStep removeStep
+      unfolding windowDoes removeStep
       found-writes a = record {
         sound = λ ok. record { answer = sym a ∙ answered ok ∙ sym (step-answer n ok); window = alters ok; returned = refl; count = refl };
         occupied = λ ok q. absurd (no-refusal (read.Value v) 4 q);

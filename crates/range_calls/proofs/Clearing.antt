@@ -14,7 +14,7 @@ use Rattle.window.specs.MemoryLaws.{capacity-le}
 use Rattle.window.specs.RefusalLaws.{Fits}
 use Rattle.model.specs.Calls.{clear, clear-bounded, done, found}
 use Rattle.model.specs.Window.{Window, decode, pagesOf}
-use Rattle.model.specs.Steps.{Release, release, Returned, releasePages, retireAll, effect, windowStep, clearStep, clearBoundedStep}
+use Rattle.model.specs.Steps.{Release, release, Returned, releasePages, retireAll, effect, windowStep, windowDoes, clearStep, clearBoundedStep}
 use Rattle.model.specs.Sound.{Sound}
 use Rattle.page_remove.specs.Contracts.{stretch}
 use Rattle.page_remove.specs.WroteLaws.{stretch-length}
@@ -34,11 +34,11 @@ use Rattle.range_calls.proofs.Finishing.{words-past, words-lengths, fin
 
 -- the calls, with a list long enough and a number taken
 pub clear-taken : (w : Window) (long : ℕ) → 384 ≤ long → clearStep w ≡ windowStep w (clear (leb 384 long))
-unfolding windowStep
+unfolding windowDoes
 clear-taken w long l = rw (le-leb 384 long l)
 
 pub clear-bounded-taken : (w : Window) (number long : ℕ) → 384 ≤ long → number ≤ 256 → clearBoundedStep w number ≡ windowStep w (clear-bounded number (leb 384 long))
-unfolding windowStep
+unfolding windowDoes
 clear-bounded-taken w number long l few = rw (le-leb 384 long l, le-leb number 256 few)
 
 -- no value is live once every value is retired

@@ -13,7 +13,8 @@ use Rattle.window.specs.declared.answers.Answer.the-variants.{Refused}
 use Rattle.window.specs.declared.answers.Step.{Step}
 use Rattle.window.specs.declared.refusals.Refusal.the-variants.{Unsound}
 use Rattle.window.specs.Memory.{memory}
-use Rattle.model.specs.Contract.{State, windowOf, first, SamePast, SameLengths}
+use Rattle.model.specs.Contract.{State, windowOf, SamePast, SameLengths}
+use Rattle.model.specs.Table.{first}
 use Rattle.model.specs.Window.{Window, decode}
 use Rattle.model.specs.Steps.{Effect, effect}
 use Rattle.model.specs.Sound.{Sound}

@@ -11,7 +11,7 @@ use Rattle.window.specs.declared.answers.Answer.the-variants.{Released}
 use Rattle.window.specs.Memory.{memory}
 use Rattle.model.specs.Calls.{release-retired, released}
 use Rattle.model.specs.Window.{Window, decode}
-use Rattle.model.specs.Steps.{Release, effect, windowStep, releaseStep}
+use Rattle.model.specs.Steps.{Release, effect, windowStep, windowDoes, releaseStep}
 use Rattle.model.specs.Sound.{Sound}
 use Rattle.page_remove.specs.Contracts.{stretch}
 use Rattle.page_remove.specs.WroteLaws.{stretch-length}
@@ -24,7 +24,7 @@ use Rattle.range_calls.proofs.Finishing.{words-past, words-lengths, fin
 
 -- the call, with a list long enough and a budget taken
 pub release-taken : (w : Window) (budget long : ℕ) → 384 ≤ long → budget ≤ 256 → releaseStep w budget ≡ windowStep w (release-retired budget (leb 384 long))
-unfolding windowStep
+unfolding windowDoes
 release-taken w budget long l few = rw (le-leb 384 long l, le-leb budget 256 few)
 
 module _ (h : AdaptiveReceiverPacketWindow) (ss vs pages blocks l : List ℕ) (budget : ℕ) (r : Visited) (pages′ blocks′ l′ : List ℕ)

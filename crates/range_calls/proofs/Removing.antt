@@ -14,7 +14,7 @@ use Rattle.window.specs.MemoryLaws.{capacity-pages, capacity-le}
 use Rattle.model.specs.Calls.{remove-range, found}
 use Rattle.model.specs.Table.{rangeCount, heldInRange}
 use Rattle.model.specs.Window.{Window, window, noPage, noBlock, decode, capacityOf, pagesOf, liveAt}
-use Rattle.model.specs.Steps.{withHeader, setCursor, dropBlockMarks, Release, releaseOf, release, retireRange, effect, windowStep, rangeStep}
+use Rattle.model.specs.Steps.{withHeader, setCursor, dropBlockMarks, Release, releaseOf, release, retireRange, effect, windowStep, windowDoes, rangeStep}
 use Rattle.model.specs.Sound.{Sound}
 use Rattle.pages.specs.DecodeLaws.{header-at}
 use Rattle.page_remove.specs.Contracts.{Wrote, stretch}
@@ -46,7 +46,7 @@ use Rattle.range_calls.proofs.Finishing.{words-past, words-lengths, fin
 
 pub range-taken : (h : AdaptiveReceiverPacketWindow) (m : Memory) (a b long start count : ℕ) → 384 ≤ long → count ≡ rangeCount a b → count ≤ h .«window_size» → start ≡ position (h .«window_size») a
     → rangeStep (decode h m) start count ≡ windowStep (decode h m) (remove-range a b (leb 384 long))
-unfolding windowStep decode
+unfolding windowDoes decode
 range-taken h m a b long start count l e few at =
     rw (le-leb 384 long l, le-leb (rangeCount a b) (h .«window_size») (omega (arith, e, few))) (λ i. rangeStep (decode h m) (at i) (e i))
 

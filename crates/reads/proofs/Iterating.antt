@@ -14,14 +14,14 @@ use Rattle.window.specs.Memory.{Memory, capacity}
 use Rattle.model.specs.Calls.{Answer, iter, done, pair}
 use Rattle.model.specs.Table.{Pair, pairOf}
 use Rattle.model.specs.Window.{Window, Page, decode, capacityOf, isReached, cellPair, pairIn, iterStep}
-use Rattle.model.specs.Steps.{effect, windowStep}
+use Rattle.model.specs.Steps.{effect, windowStep, windowDoes}
 use Rattle.pages.specs.Page.{partOf, cells}
 use Rattle.pages.specs.PartLaws.{cells-part}
 use Rattle.pages.specs.DecodeLaws.{page-at}
 use Rattle.calls.specs.FitLaws.{at-bounds}
 
 pub iter-step : (v : Window) (n : ℕ) → windowStep v (iter n) ≡ effect v (iterStep v n) []
-unfolding windowStep
+unfolding windowDoes
 iter-step v n = refl
 
 -- ---- by the cell c that was found from cell n on

@@ -9,7 +9,7 @@ use Rattle.window.specs.MemoryLaws.{position-slot}
 use Rattle.model.specs.Calls.{get, absent}
 use Rattle.model.specs.Table.{Pair, valueIf}
 use Rattle.model.specs.Window.{decode, liveAt, standsAt}
-use Rattle.model.specs.Steps.{effect, windowStep}
+use Rattle.model.specs.Steps.{effect, windowStep, windowDoes}
 use Rattle.model.specs.Sound.{Sound}
 use Rattle.pages.specs.declared.PageWords.{PageWords}
 use Rattle.pages.specs.declared.find.Read.{Read}
@@ -34,7 +34,7 @@ module _ (h : AdaptiveReceiverPacketWindow) (ss vs pages blocks : List ℕ) (s p
 
   pub get-step : windowStep (decode h (memory ss vs pages blocks)) (get s)
       ≡ effect (decode h (memory ss vs pages blocks)) (valueIf s (liveAt (decode h (memory ss vs pages blocks)) p)) []
-  unfolding windowStep decode
+  unfolding windowDoes decode
   get-step = ap (λ (q : ℕ). effect (decode h m) (valueIf s (liveAt (decode h m) q)) []) (sym e)
 
   pub get-absent : r ≡ 0 → Sound (decode h (memory ss vs pages blocks)) → absent ≡ valueIf s (liveAt (decode h (memory ss vs pages blocks)) p)

@@ -24,7 +24,7 @@ use Rattle.model.specs.Calls as model
 use Rattle.model.specs.Table as table
 use Rattle.model.specs.Table.{rangeCount, valueIf, sequenceOf}
 use Rattle.model.specs.Window.{decode, capacityOf, liveAt}
-use Rattle.model.specs.Steps.{effect, windowStep, pairAnswer, strangerIn}
+use Rattle.model.specs.Steps.{effect, windowStep, windowDoes, pairAnswer, strangerIn}
 use Rattle.model.specs.Contract.{Meets}
 use Rattle.model.specs.Sound.{Sound}
 use Rattle.pages.specs.LiveLaws.{live-in-place}
@@ -61,7 +61,7 @@ module _ (h : AdaptiveReceiverPacketWindow) (ss vs pages blocks : List ℕ) (s :
     (fit : fits h (length ss) (length vs) (length pages) (length blocks) ≡ true) where
   get-gives : Sound (decode h (memory ss vs pages blocks)) → (e : table.Pair) → liveAt (decode h (memory ss vs pages blocks)) (position (h .«window_size») s) ≡ some e → e .sequence ≡ s
       → answerOf (r .answer .answer) ≡ found (e .value)
-  unfolding windowStep decode
+  unfolding windowDoes decode
   get-gives ok e z q =
       t .sound (fit-refusal (stateOf h ss vs pages blocks) (get s) fit) ok .answer ∙ ap (valueIf s) z ∙ rw (eq-eqb (e .sequence) s q) refl
 
@@ -118,7 +118,7 @@ module _ (h : AdaptiveReceiverPacketWindow) (m : Memory) where
 module _ (h : AdaptiveReceiverPacketWindow) (ss vs pages blocks : List ℕ) (first last count : ℕ) (is : count ≡ rangeCount first last) where
   pub stranger-step : count ≤ h .«window_size»
       → windowStep (decode h (memory ss vs pages blocks)) (stranger first last) ≡ effect (decode h (memory ss vs pages blocks)) (strangerIn (decode h (memory ss vs pages blocks)) first last) []
-  unfolding windowStep decode
+  unfolding windowDoes decode
   stranger-step l = rw (le-leb (rangeCount first last) (h .«window_size») (omega (arith, is)))
 
   pub stranger-is : (r : walk.Found) (a : model.Answer) → FindsInRange h ss pages blocks first count r → GivesFound h (memory ss vs pages blocks) r a

@@ -3,16 +3,16 @@ use mathlib.Core.Path.{_≡_, refl, sym, ap, _∙_}
 use mathlib.Core.Bool.{Bool, true, false, cond, true≢false, _&&_}
 use mathlib.Core.Option.{Option, none, some}
 use mathlib.Core.List.{[]}
-use Prim.Native.Nat.{ℕ, _+_, _-_, _%_}
+use Prim.Native.Nat.{ℕ, zero, suc, _+_, _-_, _%_}
 use lib.Dec.{eqb, leb, ltb}
 use Rattle.words.specs.Cases.{bool}
 use Rattle.words.specs.First.{firstFrom, firstRound}
 use Rattle.window.specs.Memory.{position}
 use Rattle.model.specs.Calls.{Call, insert, get, exchange, remove, successor-after, first-from, remove-range, clear, clear-bounded, release-retired, iter, stranger, check, Answer, done, new, replaced, absent, found, pair, released, refused}
-use Rattle.model.specs.Table.{Pair, Table, holds, valueIf, rangeCount, covers, sequenceOf, searchFrom}
+use Rattle.model.specs.Table.{Pair, Table, holds, valueIf, rangeCount, argumentRefusal, covers, sequenceOf, searchFrom}
 use Rattle.model.specs.Window.{Page, Window, sizeOf, capacityOf, cellOf, liveAt, isReached, cellPair, iterStep}
 use Rattle.model.specs.Pages.{valuesIn, insertPage}
-use Rattle.model.specs.Steps.{Effect, effect, pageOf, liveHere, revive, isStranger, pairAnswer, strangerIn, insertStep, exchangeStep, removeStep, rangeStep, clearStep, clearBoundedStep, releaseStep, windowStep}
+use Rattle.model.specs.Steps.{Effect, effect, pageOf, liveHere, revive, isStranger, pairAnswer, strangerIn, insertStep, exchangeStep, removeStep, rangeStep, clearStep, clearBoundedStep, releaseStep, unlessRefused, windowStep, windowDoes}
 
 abbrev pub isSeven : Answer → Bool
 isSeven done = false
@@ -62,6 +62,27 @@ page-answer n p s v =
     (λ e. bool (eqb (p .sequences c) s) (λ f. rw (e, f)) (λ f. rw (e, f)))
     (λ e. bool (eqb (p .kind) 2) (λ f. rw (e, f)) (λ f. bool (ltb (valuesIn p) n) (λ k. rw (e, f, k)) (λ k. rw (e, f, k))))
 
+-- no refusal for arguments is 7, nor one for lengths
+pub argument-not-7 : (size : ℕ) (c : Call) → isSeven (refused (argumentRefusal size c)) ≡ false
+argument-not-7 size (insert s v true) = refl
+argument-not-7 size (insert s v false) = refl
+argument-not-7 size (get s) = refl
+argument-not-7 size (exchange s v) = refl
+argument-not-7 size (remove s) = refl
+argument-not-7 size (successor-after s) = refl
+argument-not-7 size (first-from s) = refl
+argument-not-7 size (remove-range a b true) = bool (leb (rangeCount a b) size) (λ e. rw e) (λ e. rw e)
+argument-not-7 size (remove-range a b false) = refl
+argument-not-7 size (clear true) = refl
+argument-not-7 size (clear false) = refl
+argument-not-7 size (clear-bounded n true) = bool (leb n 256) (λ e. rw e) (λ e. rw e)
+argument-not-7 size (clear-bounded n false) = refl
+argument-not-7 size (release-retired b true) = bool (leb b 256) (λ e. rw e) (λ e. rw e)
+argument-not-7 size (release-retired b false) = refl
+argument-not-7 size (iter cell) = refl
+argument-not-7 size (stranger a b) = bool (leb (rangeCount a b) size) (λ e. rw e) (λ e. rw e)
+argument-not-7 size check = refl
+
 module _ (w : Window) where
   insert-answer : (s v : ℕ) → isSeven (insertStep w s v .answer) ≡ false
   unfolding insertStep
@@ -90,25 +111,28 @@ module _ (w : Window) where
       neither (pairAnswer (liveAt w q)) absent (ltb q (capacityOf w)) (pair-answer (liveAt w q)) refl
 
   -- no call gives 7 on a window
-  answer-not-7 : (c : Call) → isSeven (windowStep w c .answer) ≡ false
-  unfolding windowStep rangeStep clearStep clearBoundedStep releaseStep
-  answer-not-7 (insert s v listed) = neither-effect (insertStep w s v) (effect w (refused 6) []) listed (insert-answer s v) refl
+  answer-not-7 : (c : Call) → isSeven (windowDoes w c .answer) ≡ false
+  unfolding windowDoes rangeStep clearStep clearBoundedStep releaseStep
+  answer-not-7 (insert s v listed) = insert-answer s v
   answer-not-7 (get s) = value-answer s (liveHere w s)
   answer-not-7 (exchange s v) = exchange-answer s v
   answer-not-7 (remove s) = remove-answer s
   answer-not-7 (successor-after s) = search-answer (capacityOf w) (liveAt w) (position (sizeOf w) (s + 1))
   answer-not-7 (first-from s) = search-answer (capacityOf w) (liveAt w) (position (sizeOf w) s)
-  answer-not-7 (remove-range a b true) = bool (leb (rangeCount a b) (sizeOf w)) (λ e. rw e) (λ e. rw e)
-  answer-not-7 (remove-range a b false) = refl
-  answer-not-7 (clear true) = refl
-  answer-not-7 (clear false) = refl
-  answer-not-7 (clear-bounded n true) = bool (leb n 256) (λ e. rw e) (λ e. rw e)
-  answer-not-7 (clear-bounded n false) = refl
-  answer-not-7 (release-retired b true) = bool (leb b 256) (λ e. rw e) (λ e. rw e)
-  answer-not-7 (release-retired b false) = refl
+  answer-not-7 (remove-range a b listed) = refl
+  answer-not-7 (clear listed) = refl
+  answer-not-7 (clear-bounded n listed) = refl
+  answer-not-7 (release-retired b listed) = refl
   answer-not-7 (iter cell) = iter-answer cell
-  answer-not-7 (stranger a b) = bool (leb (rangeCount a b) (sizeOf w)) (λ e. rw e (stranger-answer a b)) (λ e. rw e)
+  answer-not-7 (stranger a b) = stranger-answer a b
   answer-not-7 check = refl
 
+  unless-not-7 : (k : ℕ) (e : Effect) → isSeven (refused k) ≡ false → isSeven (e .answer) ≡ false → isSeven (unlessRefused k w e .answer) ≡ false
+  unless-not-7 zero e h i = i
+  unless-not-7 (suc k) e h i = h
+
+  step-not-7 : (c : Call) → isSeven (windowStep w c .answer) ≡ false
+  step-not-7 c = unless-not-7 (argumentRefusal (sizeOf w) c) (windowDoes w c) (argument-not-7 (sizeOf w) c) (answer-not-7 c)
+
   pub never-7 : (c : Call) → windowStep w c .answer ≡ refused 7 → ⊥
-  never-7 c = not-refused-7 (windowStep w c .answer) (answer-not-7 c)
+  never-7 c = not-refused-7 (windowStep w c .answer) (step-not-7 c)

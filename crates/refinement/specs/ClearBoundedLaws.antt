@@ -13,8 +13,8 @@ use Rattle.model.specs.Calls.{clear-bounded, found}
 use Rattle.model.specs.Table.{fresh}
 use Rattle.model.specs.Window.{Window, capacityOf, pagesOf, liveAt, retiredAt}
 use Rattle.model.specs.Pages.{holdsValue}
-use Rattle.model.specs.Positions.{Positions, positions, Drained, drained, drain, moved, step}
-use Rattle.model.specs.Steps.{Returned, returnedBy, releasePage, releasePages, retireAll, clearBoundedStep, windowStep}
+use Rattle.model.specs.Positions.{Positions, positions, Drained, drained, drain, moved, step, does}
+use Rattle.model.specs.Steps.{Returned, returnedBy, releasePage, releasePages, retireAll, clearBoundedStep, windowStep, windowDoes}
 use Rattle.model.proofs.Draining.{drain-end, drain-spent, drainThen, drain-append}
 use Rattle.soundness.specs.Change.{Proper}
 use Rattle.soundness.specs.PageLaws.{holds-none}
@@ -99,13 +99,9 @@ module _ (w : Window) (ok : Proper w) (n : ℕ) where
       (pages-as (pagesOf w) 0 n (retireAll w) (capacityOf w) 0 (capacity-pages (w .header .«window_size»)) refl (proper-all w ok) (all-len w) (omega (arith, pages-same w (retireAll w) (all-limits w))))
 
   pub clear-bounded-follows : (listed : Bool) → Follows w (clear-bounded n listed)
-  unfolding step windowStep clearBoundedStep
-  clear-bounded-follows true =
-      bool (leb n 256)
-      (λ t. record {
-        after = rw t (all-as .after);
-        answer = λ h. rw t (ap (λ (l : List ℕ). some (found (length l))) (sym (all-as .out)));
-        returned = rw t (all-as .out);
-      })
-      (λ t. record { after = rw t; answer = λ h. rw t; returned = rw t })
-  clear-bounded-follows false = record { after = refl; answer = λ h. refl; returned = refl }
+  unfolding does windowDoes clearBoundedStep
+  clear-bounded-follows listed = record {
+    after = all-as .after;
+    answer = λ h. ap (λ (l : List ℕ). some (found (length l))) (sym (all-as .out));
+    returned = all-as .out;
+  }

@@ -10,8 +10,8 @@ use Rattle.window.specs.MemoryLaws.{capacity-pages}
 use Rattle.model.specs.Calls.{clear}
 use Rattle.model.specs.Table.{fresh, within}
 use Rattle.model.specs.Window.{Window, capacityOf, pagesOf, isRetired, liveAt, retiredAt}
-use Rattle.model.specs.Positions.{positions, wipe, moved, step}
-use Rattle.model.specs.Steps.{release, retireAll, clearStep, windowStep}
+use Rattle.model.specs.Positions.{positions, wipe, moved, step, does}
+use Rattle.model.specs.Steps.{release, retireAll, clearStep, windowStep, windowDoes}
 use Rattle.model.proofs.Sweeping.{within-yes, wipe-in, wipe-above}
 use Rattle.soundness.specs.Change.{Proper}
 use Rattle.soundness.specs.LimitLaws.{all-limits}
@@ -64,10 +64,9 @@ module _ (w : Window) (ok : Proper w) where
   -- ---- clear
 
   pub clear-follows : (listed : Bool) → Follows w (clear listed)
-  unfolding step windowStep clearStep
-  clear-follows true =
+  unfolding does windowDoes clearStep
+  clear-follows listed =
       let v = retireAll w in
       let t = release-as v (proper-retiring v (proper-all w ok)) 256 in
       let r = as-seen (pagesOf v) (pagesOf w) 256 256 (positionsOf v) _ (release 256 v) (pages-same w v (all-limits w)) all-seen t in
       record { after = r .after; answer = λ h. refl; returned = r .out }
-  clear-follows false = record { after = refl; answer = λ h. refl; returned = refl }

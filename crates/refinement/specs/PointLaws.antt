@@ -14,8 +14,8 @@ use Rattle.model.specs.Calls.{Call, insert, get, exchange, remove, successor-af
 use Rattle.model.specs.Table.{Pair, Table, at, putAt, putAnswer, exchangeAt, removeAt, rangeCount}
 use Rattle.model.specs.Window.{Page, Window, sizeOf, pagesOf, cellOf, standsAt, isRetired, liveAt, retiredAt}
 use Rattle.model.specs.Pages.{setValue, takeCell, afterRemoval, demotes, insertPage, Inserted}
-use Rattle.model.specs.Positions.{Positions, positions, step}
-use Rattle.model.specs.Steps.{withPage, noteNonempty, putPage, addLive, subLive, countPromotion, countDemotion, revive, finds, isNew, insertStep, exchangeStep, removeStep, windowStep}
+use Rattle.model.specs.Positions.{Positions, positions, step, does}
+use Rattle.model.specs.Steps.{withPage, noteNonempty, putPage, addLive, subLive, countPromotion, countDemotion, revive, finds, isNew, insertStep, exchangeStep, removeStep, windowStep, windowDoes}
 use Rattle.model.specs.Sound.{Sound}
 use Rattle.pages.specs.Page.{Placed}
 use Rattle.pages.specs.Contracts.{exchanged}
@@ -83,7 +83,7 @@ module _ (w : Window) (s : ℕ) where
         (λ j l. rw (position-slot (sizeOf w) s) (rw (f .1) at (exchange-stands (w .header .n) p in-place v s j l)))
 
     pub exchange-follows : (v : ℕ) → Follows w (exchange s v)
-    unfolding step windowStep exchangeStep
+    unfolding does windowDoes exchangeStep
     exchange-follows v = record {
       after = if-found w _ x (exchangeAt s v) (finds s (liveAt w x)) (exchange-page v) (exchange-absent s v (liveAt w x));
       answer = λ h. refl;
@@ -107,7 +107,7 @@ module _ (w : Window) (s : ℕ) where
         (ap (λ (r : RemovedPage). standsAt (r .page) j) (sym (remove-when-found p s d (f .1))) ∙ remove-stands (w .header .n) p in-place s d j l))
 
     pub remove-follows : Follows w (remove s)
-    unfolding step windowStep removeStep
+    unfolding does windowDoes removeStep
     remove-follows = record {
       after = if-found w _ x (removeAt s) (finds s (liveAt w x)) removed-page (remove-absent s (liveAt w x));
       answer = λ h. refl;
@@ -157,41 +157,38 @@ module _ (w : Window) (s : ℕ) where
           ∙ ap (standsAt (u .pages (x / 64))) (position-slot (sizeOf w) s)
 
       pub insert-follows : (listed : Bool) → Follows w (insert s v listed)
-      unfolding step windowStep insertStep
-      insert-follows true = record {
+      unfolding does windowDoes insertStep
+      insert-follows listed = record {
         after = put-either (isNew (i .answer)) ∙ ap (λ (z : Positions). pointed z x (putAt s v)) (revived .after);
         answer = λ h. ap some (ap (putAnswer s) stood ∙ sym (leaves .answer));
         returned = revived .out;
       }
-      insert-follows false = record { after = refl; answer = λ h. refl; returned = refl }
 
 -- ---- calls that change nothing
 
 module _ (w : Window) where
   pub get-follows : (s : ℕ) → Follows w (get s)
-  unfolding step windowStep
+  unfolding does windowDoes
   get-follows s = record { after = refl; answer = λ h. refl; returned = refl }
 
   pub successor-follows : (s : ℕ) → Follows w (successor-after s)
-  unfolding step windowStep
+  unfolding does windowDoes
   successor-follows s = record { after = refl; answer = λ h. refl; returned = refl }
 
   pub first-follows : (s : ℕ) → Follows w (first-from s)
-  unfolding step windowStep
+  unfolding does windowDoes
   first-follows s = record { after = refl; answer = λ h. refl; returned = refl }
 
   pub iter-follows : (cell : ℕ) → Follows w (iter cell)
-  unfolding step windowStep
+  unfolding does windowDoes
   iter-follows cell = record { after = refl; answer = λ h. absurd (true≢false (sym h)); returned = refl }
 
   pub stranger-follows : (a b : ℕ) → Follows w (stranger a b)
-  unfolding step windowStep
-  stranger-follows a b = bool (leb (rangeCount a b) (sizeOf w))
-      (λ t. record { after = rw t; answer = λ h. absurd (true≢false (sym h)); returned = rw t })
-      (λ t. record { after = rw t; answer = λ h. absurd (true≢false (sym h)); returned = rw t })
+  unfolding does windowDoes
+  stranger-follows a b = record { after = refl; answer = λ h. absurd (true≢false (sym h)); returned = refl }
 
   pub check-follows : Follows w check
-  unfolding step windowStep
+  unfolding does windowDoes
   check-follows = record { after = refl; answer = λ h. absurd (true≢false (sym h)); returned = refl }
 
 pub point-follows : (w : Window) → Sound w → NothingPast w → (c : Call) → isPoint c ≡ true → Follows w c

@@ -12,8 +12,8 @@ use Rattle.window.specs.MemoryLaws.{capacity-pages, position-lt}
 use Rattle.model.specs.Calls.{remove-range}
 use Rattle.model.specs.Table.{rangeCount, within}
 use Rattle.model.specs.Window.{Window, sizeOf, capacityOf, pagesOf, liveAt, retiredAt}
-use Rattle.model.specs.Positions.{Positions, positions, Drained, drain, wipe, moved, Swept, swept, sweep, sweepRange, retiredCount, step}
-use Rattle.model.specs.Steps.{Returned, returnedBy, removeSlots, retirePages, retireStretch, retireRange, release, rangeStep, windowStep}
+use Rattle.model.specs.Positions.{Positions, positions, Drained, drain, wipe, moved, Swept, swept, sweep, sweepRange, retiredCount, step, does}
+use Rattle.model.specs.Steps.{Returned, returnedBy, removeSlots, retirePages, retireStretch, retireRange, release, rangeStep, windowStep, windowDoes}
 use Rattle.model.proofs.Draining.{drain-end}
 use Rattle.model.proofs.Sweeping.{within-yes, within-below, within-above}
 use Rattle.model.proofs.Keeping.{count-some}
@@ -166,17 +166,13 @@ module _ (w : Window) (ok : Proper w) (start count : ℕ) (l : start < capacityO
       as-seen (pagesOf v) (pagesOf w) 256 256 (positionsOf v) (positions (s .live) (s .retired) cursor) (release 256 v) (pages-same w v (ranged-limits w start count)) swept-seen
       (release-as v (retiring-ranged w start count ok l some few) 256)
 
-pub range-follows : (w : Window) → Proper w → (a b : ℕ) (listed : Bool) → Follows w (remove-range a b listed)
-unfolding step windowStep rangeStep
-range-follows w ok a b true =
+pub range-follows : (w : Window) → Proper w → (a b : ℕ) (listed : Bool) → leb (rangeCount a b) (sizeOf w) ≡ true → Follows w (remove-range a b listed)
+unfolding does windowDoes rangeStep
+range-follows w ok a b listed e =
     let start = position (sizeOf w) a in
     let count = rangeCount a b in
-    bool (leb count (sizeOf w))
-    (λ e.
     let l = position-lt (sizeOf w) a in
     let few = count-few w ok a b e in
     let r = released w ok start count l (count-some a b) few in
     let t = all-swept w ok start count l (count-some a b) few in
-    record { after = rw e (r .after); answer = λ h. rw e; returned = rw e (λ i. t .out i ++ r .out i) })
-    (λ e. record { after = rw e; answer = λ h. rw e; returned = rw e })
-range-follows w ok a b false = record { after = refl; answer = λ h. refl; returned = refl }
+    record { after = r .after; answer = λ h. refl; returned = λ i. t .out i ++ r .out i }

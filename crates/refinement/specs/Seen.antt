@@ -10,8 +10,8 @@ use Rattle.model.specs.Table.{sum}
 use Rattle.model.specs.Demand3.{one, Entry}
 use Rattle.model.specs.Window.{Window, sizeOf, pagesOf, isRetired, liveAt, retiredAt}
 use Rattle.model.specs.Pages.{holdsValue}
-use Rattle.model.specs.Positions.{Positions, positions, step}
-use Rattle.model.specs.Steps.{windowStep}
+use Rattle.model.specs.Positions.{Positions, positions, Result, step, does}
+use Rattle.model.specs.Steps.{Effect, windowStep, windowDoes}
 use Rattle.model.specs.Sound.{Sound}
 use Rattle.model.specs.Contract.{State, windowOf, lengthsFit}
 use Rattle.model.specs.Heads.{Stepped, pairsOf, retiredOf, heldOf, lenOf}
@@ -20,11 +20,19 @@ use Rattle.model.specs.Refinement.{Refines}
 abbrev pub positionsOf : Window → Positions
 positionsOf w = positions (liveAt w) (retiredAt w) (w .header .«release_cursor»)
 
--- call c does to window w what `step` does at its positions
-pub record Follows (w : Window) (c : Call) : Type 0 where
-  pub after : positionsOf (windowStep w c .after) ≡ step (sizeOf w) (positionsOf w) c .after
-  pub answer : roleOf c .shared ≡ true → step (sizeOf w) (positionsOf w) c .answer ≡ some (windowStep w c .answer)
-  pub returned : windowStep w c .returned ≡ step (sizeOf w) (positionsOf w) c .returned
+-- e, of call c, does to window w what r does at its positions
+pub record Alike (w : Window) (c : Call) (e : Effect) (r : Result) : Type 0 where
+  pub after : positionsOf (e .after) ≡ r .after
+  pub answer : roleOf c .shared ≡ true → r .answer ≡ some (e .answer)
+  pub returned : e .returned ≡ r .returned
+
+-- call c, not refused for its arguments, does to window w what it does at its positions
+abbrev pub Follows : Window → Call → Type 0
+Follows w c = Alike w c (windowDoes w c) (does (sizeOf w) (positionsOf w) c)
+
+-- and refused or not
+abbrev pub StepFollows : Window → Call → Type 0
+StepFollows w c = Alike w c (windowStep w c) (step (sizeOf w) (positionsOf w) c)
 
 -- the retired pages that hold a value
 abbrev pub retiredPages : Window → ℕ

@@ -4,7 +4,7 @@ use mathlib.Core.Path.{_≡_, refl, sym, ap, subst, _∙_}
 use mathlib.Core.Bool.{true, false, _&&_}
 use mathlib.Core.Option.{some}
 use mathlib.Core.List.{List, []}
-use Prim.Native.Nat.{ℕ}
+use Prim.Native.Nat.{ℕ, zero, suc}
 use native.Mathlib.Decide.{ℕ-discrete}
 use lib.Dec.{eqb, leb}
 use lib.ListN.{length, take}
@@ -13,45 +13,31 @@ use Rattle.window.specs.declared.AdaptiveReceiverPacketWindow.{AdaptiveReceiver
 use Rattle.window.specs.Memory.{Memory}
 use Rattle.window.specs.Refusals.{limits, longEnough, fits}
 use Rattle.model.specs.Calls.{Call, insert, get, exchange, remove, successor-after, first-from, remove-range, clear, clear-bounded, release-retired, iter, stranger, check, refused}
-use Rattle.model.specs.Table.{rangeCount}
+use Rattle.model.specs.Table.{rangeCount, argumentRefusal}
 use Rattle.model.specs.Demand3.{Entry}
 use Rattle.model.specs.Window.{Window, sizeOf}
 use Rattle.model.specs.Positions.{step}
-use Rattle.model.specs.Steps.{Effect, effect, windowStep}
+use Rattle.model.specs.Steps.{Effect, effect, unlessRefused, windowStep, windowDoes}
 use Rattle.model.specs.Sound.{Sound}
-use Rattle.model.specs.Contract.{State, windowOf, Left, argumentRefusal, lengthsFit, refusal, SameLengths, Does, Meets}
+use Rattle.model.specs.Contract.{State, windowOf, Left, lengthsFit, refusal, SameLengths, Does, Meets}
 use Rattle.model.specs.Heads.{Stepped}
 use Rattle.pages.specs.DecodeLaws.{header-at}
 use Rattle.soundness.specs.Change.{Proper, Limits, limitsOf, SameLimits}
 use Rattle.soundness.specs.PointLaws.{proper-decode}
 use Rattle.soundness.specs.CallLaws.{call-limits, sound-call}
-use Rattle.refinement.specs.Seen.{positionsOf, Follows, SoundState, StepRefines}
+use Rattle.refinement.specs.Seen.{positionsOf, StepFollows, SoundState, StepRefines}
 use Rattle.refinement.specs.CallLaws.{call-follows}
-use Rattle.refinement.specs.AnswerLaws.{isSeven, not-refused-7, never-7}
+use Rattle.refinement.specs.AnswerLaws.{isSeven, not-refused-7, argument-not-7, never-7}
 
 -- ---- the contract on a sound state
 
 -- what is refused for its arguments changes nothing
+unless-refused : (k : ℕ) (w : Window) (e : Effect) → (k ≡ 0 → ⊥) → unlessRefused k w e ≡ effect w (refused k) []
+unless-refused zero w e h = absurd (h refl)
+unless-refused (suc k) w e h = refl
+
 refused-step : (w : Window) (c : Call) → (argumentRefusal (sizeOf w) c ≡ 0 → ⊥) → windowStep w c ≡ effect w (refused (argumentRefusal (sizeOf w) c)) []
-unfolding windowStep
-refused-step w (insert s v true) h = absurd (h refl)
-refused-step w (insert s v false) h = refl
-refused-step w (get s) h = absurd (h refl)
-refused-step w (exchange s v) h = absurd (h refl)
-refused-step w (remove s) h = absurd (h refl)
-refused-step w (successor-after s) h = absurd (h refl)
-refused-step w (first-from s) h = absurd (h refl)
-refused-step w (remove-range a b true) h = bool (leb (rangeCount a b) (sizeOf w)) (λ e. absurd (h (rw e))) (λ e. rw e)
-refused-step w (remove-range a b false) h = refl
-refused-step w (clear true) h = absurd (h refl)
-refused-step w (clear false) h = refl
-refused-step w (clear-bounded n true) h = bool (leb n 256) (λ e. absurd (h (rw e))) (λ e. rw e)
-refused-step w (clear-bounded n false) h = refl
-refused-step w (release-retired b true) h = bool (leb b 256) (λ e. absurd (h (rw e))) (λ e. rw e)
-refused-step w (release-retired b false) h = refl
-refused-step w (iter cell) h = absurd (h refl)
-refused-step w (stranger a b) h = bool (leb (rangeCount a b) (sizeOf w)) (λ e. absurd (h (rw e))) (λ e. rw e)
-refused-step w check h = absurd (h refl)
+refused-step w c h = unless-refused (argumentRefusal (sizeOf w) c) w (windowDoes w c) h
 
 module _ (c : Call) (u : State) (l : List ℕ) (r : Left) (m : Meets c u l r) (fit : lengthsFit u ≡ true) where
   refusal-is : argumentRefusal (sizeOf (windowOf u)) c ≡ refusal u c
@@ -108,7 +94,7 @@ module _ (size : ℕ) (u v : State) (e : Entry) (s : SoundState size u) (t : Ste
       }
 
   -- what the call does to the window, it does to the state
-  pub follows-refines : Follows (windowOf u) (e .call) → SoundState size v → StepRefines size u e v
+  pub follows-refines : StepFollows (windowOf u) (e .call) → SoundState size v → StepRefines size u e v
   follows-refines f ok =
       let same : sizeOf (windowOf u) ≡ size = ap (λ (h : AdaptiveReceiverPacketWindow). h .«window_size») (header-at (u .header) (u .memory)) ∙ s .of-size in
       record {
@@ -129,27 +115,7 @@ module _ (size : ℕ) (u v : State) (e : Entry) (s : SoundState size u) (t : Ste
 
 -- ---- refusal 7
 
--- no refusal for arguments is 7, nor one for lengths
-argument-not-7 : (size : ℕ) (c : Call) → isSeven (refused (argumentRefusal size c)) ≡ false
-argument-not-7 size (insert s v true) = refl
-argument-not-7 size (insert s v false) = refl
-argument-not-7 size (get s) = refl
-argument-not-7 size (exchange s v) = refl
-argument-not-7 size (remove s) = refl
-argument-not-7 size (successor-after s) = refl
-argument-not-7 size (first-from s) = refl
-argument-not-7 size (remove-range a b true) = bool (leb (rangeCount a b) size) (λ e. rw e) (λ e. rw e)
-argument-not-7 size (remove-range a b false) = refl
-argument-not-7 size (clear true) = refl
-argument-not-7 size (clear false) = refl
-argument-not-7 size (clear-bounded n true) = bool (leb n 256) (λ e. rw e) (λ e. rw e)
-argument-not-7 size (clear-bounded n false) = refl
-argument-not-7 size (release-retired b true) = bool (leb b 256) (λ e. rw e) (λ e. rw e)
-argument-not-7 size (release-retired b false) = refl
-argument-not-7 size (iter cell) = refl
-argument-not-7 size (stranger a b) = bool (leb (rangeCount a b) size) (λ e. rw e) (λ e. rw e)
-argument-not-7 size check = refl
-
+-- no refusal is 7
 refusal-not-7 : (u : State) (c : Call) → isSeven (refused (refusal u c)) ≡ false
 refusal-not-7 u c = bool (lengthsFit u) (λ e. rw e (argument-not-7 (u .header .«window_size») c)) (λ e. rw e)
 

@@ -12,8 +12,8 @@ use Rattle.model.specs.Calls.{release-retired, clear, released}
 use Rattle.model.specs.Demand3.{one}
 use Rattle.model.specs.Window.{Window, capacityOf, pagesOf, isRetired, liveAt, retiredAt}
 use Rattle.model.specs.Pages.{holdsValue}
-use Rattle.model.specs.Positions.{Positions, pageHolds, moved, release as releaseAt, step}
-use Rattle.model.specs.Steps.{Release, release, releaseStep, windowStep}
+use Rattle.model.specs.Positions.{Positions, pageHolds, moved, release as releaseAt, step, does}
+use Rattle.model.specs.Steps.{Release, release, releaseStep, windowStep, windowDoes}
 use Rattle.model.proofs.Units.{pagesHeld, pairsHeld, release-few, release-costs}
 use Rattle.soundness.specs.Change.{Proper}
 use Rattle.soundness.specs.SumLaws.{sum-same}
@@ -59,12 +59,12 @@ module _ (w : Window) (ok : Proper w) where
   pub release-answers : (b : ℕ) → b ≤ 256
       → let e = windowStep w (release-retired b true) in
       e .answer ≡ released (length (e .returned)) (cond (eqb (e .after .header .«retired_held») 0) (length (e .returned) + retiredPages w) b)
-  unfolding windowStep releaseStep
+  unfolding windowDoes releaseStep
   release-answers b l = rw (le-leb b 256 l) (ap (released (length (release b w .out))) (units-are b))
 
   -- a clear returns no more values than a visit has units
   pub clear-few : length (windowStep w (clear true) .returned) ≤ 256
-  unfolding step
+  unfolding does
   clear-few =
       let t = moved 0 (capacityOf w) (liveAt w) (retiredAt w) in
       omega (arith, ap length (call-follows w ok (clear true) .returned), release-few (pagesOf w) 256 256 t (w .header .«release_cursor»))

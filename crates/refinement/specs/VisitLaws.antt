@@ -13,8 +13,8 @@ use Rattle.window.specs.Memory.{pageCount}
 use Rattle.model.specs.Calls.{release-retired, released}
 use Rattle.model.specs.Table.{Table}
 use Rattle.model.specs.Window.{Window, pagesOf, isRetired, liveAt, retiredAt}
-use Rattle.model.specs.Positions.{Positions, positions, Drained, drain, nextPage, cursorAfter, Released, releasedOf, step, release as releaseAt}
-use Rattle.model.specs.Steps.{dropBlockMarks, Returned, releasePage, nextRetired, moveCursor, Release, releaseOf, releaseUnits, release, releaseStep, windowStep}
+use Rattle.model.specs.Positions.{Positions, positions, Drained, drain, nextPage, cursorAfter, Released, releasedOf, step, does, release as releaseAt}
+use Rattle.model.specs.Steps.{dropBlockMarks, Returned, releasePage, nextRetired, moveCursor, Release, releaseOf, releaseUnits, release, releaseStep, windowStep, windowDoes}
 use Rattle.model.proofs.Releasing.{release-stops, release-visits}
 use Rattle.soundness.specs.Change.{Proper}
 use Rattle.soundness.specs.Retire.{Retiring}
@@ -150,14 +150,7 @@ module _ (w : Window) (ok : Retiring w) where
 -- ---- release_retired
 
 pub release-follows : (w : Window) → Proper w → (b : ℕ) (listed : Bool) → Follows w (release-retired b listed)
-unfolding step windowStep releaseStep
-release-follows w ok b true =
+unfolding does windowDoes releaseStep
+release-follows w ok b listed =
     let r = release-as w (proper-retiring w ok) b in
-    bool (leb b 256)
-    (λ t. record {
-      after = rw t (r .after);
-      answer = λ h. rw t (λ i. some (released (length (sym (r .out) i)) (sym (r .units) i)));
-      returned = rw t (r .out);
-    })
-    (λ t. record { after = rw t; answer = λ h. rw t; returned = rw t })
-release-follows w ok b false = record { after = refl; answer = λ h. refl; returned = refl }
+    record { after = r .after; answer = λ h. (λ i. some (released (length (sym (r .out) i)) (sym (r .units) i))); returned = r .out }

@@ -1,19 +1,18 @@
 -- Every call keeps a window sound, and its limits. Assumes nothing.
 use mathlib.Core.Path.{_≡_, refl, _∙_}
-use mathlib.Core.Bool.{true, false}
-use Prim.Native.Nat.{ℕ}
+use mathlib.Core.Bool.{true}
+use Prim.Native.Nat.{ℕ, zero, suc}
 use native.Mathlib.Omega.{arith}
 use lib.Dec.{leb}
-use Rattle.words.specs.Cases.{bool}
 use Rattle.window.specs.declared.AdaptiveReceiverPacketWindow.{AdaptiveReceiverPacketWindow}
 use Rattle.window.specs.Memory.{Memory, position}
 use Rattle.window.specs.MemoryLaws.{position-lt}
 use Rattle.model.specs.Calls.{Call, insert, get, exchange, remove, successor-after, first-from, remove-range, clear, clear-bounded, release-retired, iter, stranger, check}
-use Rattle.model.specs.Table.{rangeCount}
+use Rattle.model.specs.Table.{rangeCount, argumentRefusal}
 use Rattle.model.specs.Window.{Window, decode, sizeOf, pagesOf}
-use Rattle.model.specs.Steps.{retireAll, rangeStep, clearStep, clearBoundedStep, releaseStep, windowStep}
+use Rattle.model.specs.Steps.{retireAll, rangeStep, clearStep, clearBoundedStep, releaseStep, Effect, unlessRefused, windowStep, windowDoes}
 use Rattle.model.specs.Sound.{Sound}
-use Rattle.model.proofs.Keeping.{count-some}
+use Rattle.model.proofs.Keeping.{count-some, range-taken}
 use Rattle.soundness.specs.Change.{Proper, SameLimits, isPoint}
 use Rattle.soundness.specs.LimitLaws.{all-limits, point-limits}
 use Rattle.soundness.specs.PointLaws.{proper-decode, proper-point}
@@ -54,28 +53,31 @@ module _ (w : Window) (ok : Proper w) where
   unfolding releaseStep
   release-keeps b = record { proper = proper-release b w ok; limits = release-limits b w ok }
 
-  point-keeps : (c : Call) → isPoint c ≡ true → Keeps w (windowStep w c .after)
+  point-keeps : (c : Call) → isPoint c ≡ true → Keeps w (windowDoes w c .after)
   point-keeps c p = record { proper = proper-point w c p ok; limits = point-limits w c p }
 
+  does-keeps : (c : Call) → argumentRefusal (sizeOf w) c ≡ 0 → Keeps w (windowDoes w c .after)
+  unfolding windowDoes
+  does-keeps (insert s v listed) z = point-keeps (insert s v listed) refl
+  does-keeps (get s) z = point-keeps (get s) refl
+  does-keeps (exchange s v) z = point-keeps (exchange s v) refl
+  does-keeps (remove s) z = point-keeps (remove s) refl
+  does-keeps (successor-after s) z = point-keeps (successor-after s) refl
+  does-keeps (first-from s) z = point-keeps (first-from s) refl
+  does-keeps (remove-range a b listed) z = range-keeps a b (range-taken (sizeOf w) a b listed z)
+  does-keeps (clear listed) z = clear-keeps
+  does-keeps (clear-bounded n listed) z = clear-bounded-keeps n
+  does-keeps (release-retired b listed) z = release-keeps b
+  does-keeps (iter cell) z = point-keeps (iter cell) refl
+  does-keeps (stranger a b) z = point-keeps (stranger a b) refl
+  does-keeps check z = point-keeps check refl
+
+  unless-keeps : (k : ℕ) (e : Effect) → (k ≡ 0 → Keeps w (e .after)) → Keeps w (unlessRefused k w e .after)
+  unless-keeps zero e h = h refl
+  unless-keeps (suc k) e h = keeps-same
+
   call-keeps : (c : Call) → Keeps w (windowStep w c .after)
-  unfolding windowStep
-  call-keeps (insert s v listed) = point-keeps (insert s v listed) refl
-  call-keeps (get s) = point-keeps (get s) refl
-  call-keeps (exchange s v) = point-keeps (exchange s v) refl
-  call-keeps (remove s) = point-keeps (remove s) refl
-  call-keeps (successor-after s) = point-keeps (successor-after s) refl
-  call-keeps (first-from s) = point-keeps (first-from s) refl
-  call-keeps (remove-range a b true) = bool (leb (rangeCount a b) (sizeOf w)) (λ e. rw e (range-keeps a b e)) (λ e. rw e keeps-same)
-  call-keeps (remove-range a b false) = keeps-same
-  call-keeps (clear true) = clear-keeps
-  call-keeps (clear false) = keeps-same
-  call-keeps (clear-bounded n true) = bool (leb n 256) (λ e. rw e (clear-bounded-keeps n)) (λ e. rw e keeps-same)
-  call-keeps (clear-bounded n false) = keeps-same
-  call-keeps (release-retired b true) = bool (leb b 256) (λ e. rw e (release-keeps b)) (λ e. rw e keeps-same)
-  call-keeps (release-retired b false) = keeps-same
-  call-keeps (iter cell) = point-keeps (iter cell) refl
-  call-keeps (stranger a b) = point-keeps (stranger a b) refl
-  call-keeps check = point-keeps check refl
+  call-keeps c = unless-keeps (argumentRefusal (sizeOf w) c) (windowDoes w c) (does-keeps c)
 
   pub proper-call : (c : Call) → Proper (windowStep w c .after)
   proper-call c = call-keeps c .proper

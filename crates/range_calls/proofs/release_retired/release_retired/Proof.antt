@@ -12,7 +12,8 @@ use Rattle.window.specs.RefusalLaws.{Fits}
 use Rattle.model.specs.Calls.{release-retired}
 use Rattle.model.specs.Window.{Window, decode}
 use Rattle.model.specs.Steps.{releaseStep}
-use Rattle.model.specs.Contract.{first, Meets}
+use Rattle.model.specs.Contract.{Meets}
+use Rattle.model.specs.Table.{first}
 use Rattle.calls.specs.Answers.{stateOf, leftOf}
 use Rattle.calls.specs.ListLaws.{short-list, long-list, argument-meets, fills-meet}
 use Rattle.range_calls.specs.Finish.{finished}

@@ -9,10 +9,9 @@ use Rattle.window.specs.Memory.{memory}
 use Rattle.window.specs.MemoryLaws.{size-le, position-lt}
 use Rattle.window.specs.RefusalLaws.{Fits}
 use Rattle.model.specs.Calls.{remove-range}
-use Rattle.model.specs.Table.{rangeCount}
+use Rattle.model.specs.Table.{rangeCount, first}
 use Rattle.model.specs.Window.{Window}
 use Rattle.model.specs.Steps.{rangeStep}
-use Rattle.model.specs.Contract.{first}
 use Rattle.calls.specs.ListLaws.{short-list, long-list, argument-meets, fills-meet}
 use Rattle.calls.specs.RangeLaws.{count-refused, count-taken, count-some}
 use Rattle.range_calls.proofs.Removing.{range-taken}
