@@ -9,9 +9,9 @@ use Rattle.words.specs.Word.{bitAt, withBit, countBelow, span, wordBelow, lowes
 use Rattle.window.specs.Memory.{capacity}
 use Rattle.window.specs.Refusals.{limits}
 use Rattle.window.specs.New.{fresh as freshHeader}
-use Rattle.model.specs.Calls.{Call, insert, successor-after, remove-range, clear, clear-bounded, release-retired, Answer, done, new, absent, found, released, refused}
+use Rattle.model.specs.Calls.{successor-after, Call, insert, ask, remove-range, clear, clear-bounded, release-retired, Answer, done, new, absent, found, released, refused}
 use Rattle.model.specs.Table.{pairOf, fresh, at, rangeCount, sum, heldInRange, searchFrom, tableStep, tableDoes}
-use Rattle.model.specs.Positions.{Positions, positions, drain, inPage, sweep, sweepRange, release, step, does}
+use Rattle.model.specs.Positions.{Positions, positions, plain, drain, inPage, sweep, sweepRange, release, step, does}
 use Rattle.model.specs.Window.{Window, window, noPage, noBlock, cellOf}
 use Rattle.model.specs.Pages.{freeCell, promoted, nthSet, packed, insertPage, drainPage}
 use Rattle.model.specs.Steps.{noteNonempty, splitBlock, releasePage, nextRetired, releaseUnits, revive, removeSlots, retireInBlock, retireBlock, retireBlocks, retirePages, retireStretch, retireRange, retireAll, releasePages, insertStep, rangeStep, clearStep, clearBoundedStep, releaseStep, windowStep, windowDoes, Effect}
@@ -53,7 +53,7 @@ insertsFrom s zero = []
 insertsFrom s (suc n) = insert s s true ∷ insertsFrom (suc s) n
 
 listing : lines (freshWindow 64 2 1)
-    (insert 5 50 true ∷ insert 69 51 true ∷ insert 6 60 true ∷ insert 7 70 true ∷ remove-range 6 7 true ∷ clear true ∷ successor-after 5 ∷ [])
+    (insert 5 50 true ∷ insert 69 51 true ∷ insert 6 60 true ∷ insert 7 70 true ∷ remove-range 6 7 true ∷ clear true ∷ ask (successor-after 5) ∷ [])
     ≡ line new 1 0 0 0 [] ∷ line (refused 4) 1 0 0 0 [] ∷ line new 2 0 0 0 [] ∷ line new 3 0 1 0 []
     ∷ line (found 2) 1 0 1 1 (60 ∷ 70 ∷ []) ∷ line done 0 0 1 1 (50 ∷ []) ∷ line absent 0 0 1 1 [] ∷ []
 unfolding firstFrom firstRound bitAt withBit countBelow span wordBelow lowest capacity freshHeader rangeCount sum heldInRange searchFrom cellOf freeCell promoted nthSet packed insertPage drainPage noteNonempty splitBlock releasePage nextRetired releaseUnits revive removeSlots retireStretch retireRange retireAll insertStep rangeStep clearStep windowDoes
@@ -64,7 +64,7 @@ twoPairs : Positions
 twoPairs = positions (at (at fresh 0 (some (pairOf 0 10))) 63 (some (pairOf 63 13))) fresh 0
 
 range-over-half : (step 64 twoPairs (remove-range 2147483647 0 true) .returned ≡ 13 ∷ 10 ∷ [])
-    × (tableStep 64 (twoPairs .live) (remove-range 2147483647 0 true) .answer ≡ some (found 2))
+    × (tableStep 64 (plain twoPairs) (remove-range 2147483647 0 true) .answer ≡ some (found 2))
 unfolding twoPairs does tableDoes capacity firstFrom firstRound rangeCount sum heldInRange drain inPage sweep sweepRange release
 range-over-half = (refl, refl)
 
@@ -87,7 +87,7 @@ edge-cases :
     × (lines (freshWindow 64 8 2) (insert 0 10 true ∷ insert 1 11 true ∷ insert 62 12 true ∷ insert 63 13 true ∷ remove-range 2147483647 0 true ∷ [])
     ≡ line new 1 0 0 0 [] ∷ line new 2 0 0 0 [] ∷ line new 3 0 0 0 [] ∷ line new 4 0 0 0 [] ∷ line (found 2) 2 0 0 0 (13 ∷ 10 ∷ []) ∷ [])
     -- Only 9 live: successor_after(9) is 9
-    × (lines (freshWindow 64 8 2) (insert 9 1 true ∷ successor-after 9 ∷ []) ≡ line new 1 0 0 0 [] ∷ line (found 9) 1 0 0 0 [] ∷ [])
+    × (lines (freshWindow 64 8 2) (insert 9 1 true ∷ ask (successor-after 9) ∷ []) ≡ line new 1 0 0 0 [] ∷ line (found 9) 1 0 0 0 [] ∷ [])
     -- Budget 256 taken, 257 refused 8
     × (lines (freshWindow 64 8 2) (release-retired 256 true ∷ release-retired 257 true ∷ clear-bounded 257 true ∷ clear-bounded 256 true ∷ [])
     ≡ line (released 0 0) 0 0 0 0 [] ∷ line (refused 8) 0 0 0 0 [] ∷ line (refused 8) 0 0 0 0 [] ∷ line (found 0) 0 0 0 0 [] ∷ [])

@@ -9,46 +9,36 @@ use lib.Dec.{leb}
 use lib.ListN.{length, take}
 use Rattle.words.specs.Cases.{bool}
 use Rattle.window.specs.Memory.{capacity}
-use Rattle.model.specs.Calls.{Call, insert, get, exchange, remove, successor-after, first-from, remove-range, clear, clear-bounded, release-retired, iter, stranger, check, Answer}
-use Rattle.model.specs.Table.{Pair, Table, fresh, tableStep, tableDoes}
-use Rattle.model.specs.Roles.{roleOf}
-use Rattle.model.specs.Demand3.{times, copies, SamePairs, values, pairsBelow, lost, listOf, tableAfter, tableAnswers, tableEmptied, Entry, callsOf, common, answersOf, acceptedOf, handedBackOf, returnedOf, Visits, no-visit, visit, History, begun, goes-on, stateAfter, After, Agree, Demand3}
+use Rattle.model.specs.Calls.{Call, insert, exchange, remove, remove-range, clear, clear-bounded, release-retired, ask, Answer}
+use Rattle.model.specs.Table.{TableState, freshTable, known, argumentRefusal, Outcome, unlessRefused, tableStep, tableDoes}
+use Rattle.model.specs.Roles.{roleOf, toldOf}
+use Rattle.model.specs.Demand3.{times, copies, SamePairs, values, pairsBelow, lost, tableAfter, tableAnswers, tableEmptied, Entry, callsOf, common, answersOf, sharedOf, acceptedOf, handedBackOf, returnedOf, Visits, no-visit, visit, Head, History, begun, goes-on, stateAfter, After, Agree, Demand3}
 use Rattle.model.proofs.Sums.{times-append}
 
 -- ---- the plain table does not see release_retired
 
--- a call of release_retired leaves the table, and shares no answer
-release-still : (size : ℕ) (t : Table) (c : Call) → roleOf c .release ≡ true → (tableStep size t c .after ≡ t) × (roleOf c .shared ≡ false)
-unfolding tableDoes
-release-still size t (insert s v l) e = (cc, cc)
-release-still size t (get s) e = (cc, cc)
-release-still size t (exchange s v) e = (cc, cc)
-release-still size t (remove s) e = (cc, cc)
-release-still size t (successor-after s) e = (cc, cc)
-release-still size t (first-from s) e = (cc, cc)
-release-still size t (remove-range a b l) e = (cc, cc)
-release-still size t (clear l) e = (cc, cc)
-release-still size t (clear-bounded n l) e = (cc, cc)
-release-still size t (release-retired b false) e = (refl, refl)
-release-still size t (release-retired b true) e = (bool (leb b 256) (λ i. rw i) (λ i. rw i), refl)
-release-still size t (iter cell) e = (cc, cc)
-release-still size t (stranger a b) e = (cc, cc)
-release-still size t check e = (cc, cc)
+unless-still : (k : ℕ) (t : TableState) (o : Outcome) → o .after ≡ t → unlessRefused k t o .after ≡ t
+unless-still zero t o e = e
+unless-still (suc k) t o e = refl
 
-pub common-table : (size : ℕ) (t : Table) (cs : List Call) → tableAfter size t (common cs) ≡ tableAfter size t cs
+-- a call of release_retired leaves the table
+release-still : (size : ℕ) (t : TableState) (c : Call) → roleOf c .release ≡ true → tableStep size t c .after ≡ t
+unfolding tableDoes
+release-still size t (insert s v l) e = cc
+release-still size t (exchange s v) e = cc
+release-still size t (remove s) e = cc
+release-still size t (remove-range a b l) e = cc
+release-still size t (clear l) e = cc
+release-still size t (clear-bounded n l) e = cc
+release-still size t (release-retired b l) e = unless-still (argumentRefusal (known size) (release-retired b l)) t (tableDoes size t (release-retired b l)) refl
+release-still size t (ask q) e = cc
+
+pub common-table : (size : ℕ) (t : TableState) (cs : List Call) → tableAfter size t (common cs) ≡ tableAfter size t cs
 common-table size t [] = refl
 common-table size t (c ∷ cs) =
     bool (roleOf c .release)
-    (λ e. rw e (common-table size t cs ∙ ap (λ (u : Table). tableAfter size u cs) (sym (release-still size t c e .0))))
+    (λ e. rw e (common-table size t cs ∙ ap (λ (u : TableState). tableAfter size u cs) (sym (release-still size t c e))))
     (λ e. rw e (common-table size (tableStep size t c .after) cs))
-
-pub common-answers : (size : ℕ) (t : Table) (cs : List Call) → tableAnswers size t (common cs) ≡ tableAnswers size t cs
-common-answers size t [] = refl
-common-answers size t (c ∷ cs) =
-    bool (roleOf c .release)
-    (λ e. let s = release-still size t c e in rw (e, s .1) (common-answers size t cs ∙ ap (λ (u : Table). tableAnswers size u cs) (sym (s .0))))
-    (λ e. rw e (ap (λ (l : List Answer). cond (roleOf c .shared) (listOf (tableStep size t c .answer)) [] ++ l)
-    (common-answers size (tableStep size t c .after) cs)))
 
 -- ---- the first calls of a list
 
@@ -87,106 +77,116 @@ no-length : (l : List ℕ) → length l ≡ 0 → l ≡ []
 no-length [] e = refl
 no-length (x ∷ xs) e = absurd (omega arith)
 
-module _ (W : Type 0) (Met : W → Entry → W → Type 0) where
-  pub first-history : {u w : W} {es : List Entry} (k : ℕ) (h : History W Met u es w) → History W Met u (take k es) (stateAfter W Met k h)
+module _ (H : Head) where
+  abbrev W : Type 0
+  W = H .State
+
+  pub first-history : {u w : W} {es : List Entry} (k : ℕ) (h : History H u es w) → History H u (take k es) (stateAfter H k h)
   first-history zero begun = begun
   first-history (suc k) begun = begun
   first-history zero (goes-on m h) = begun
   first-history (suc k) (goes-on m h) = goes-on m (first-history k h)
 
-  module _ (pairs : W → List Pair) (retired : W → List ℕ) (retiredHeld len : W → ℕ) (size : ℕ) where
+  module _ (size : ℕ) where
     -- what is asked of one call: in state u, with Good u t, it gave the entry e and left state w
-    pub record Kept (Good : W → Table → Type 0) (t : Table) (u : W) (e : Entry) (w : W) : Type 0 where
+    pub record Kept (Good : W → TableState → Type 0) (t : TableState) (u : W) (e : Entry) (w : W) : Type 0 where
       pub good : Good w (tableStep size t (e .call) .after)
-      pub answers : cond (roleOf (e .call) .shared) (e .answer ∷ []) [] ≡ cond (roleOf (e .call) .shared) (listOf (tableStep size t (e .call) .answer)) []
+      pub answer : roleOf (e .call) .told (e .answer) ≡ toldOf (roleOf (e .call)) (tableStep size t (e .call) .answer)
       pub whole : (v : ℕ)
-          → times v (roleOf (e .call) .accepted (e .answer)) + times v (values (pairs u)) + times v (retired u)
-          ≡ times v (values (pairs w)) + times v (retired w) + times v (roleOf (e .call) .handedBack (e .answer)) + times v (e .returned)
+          → times v (roleOf (e .call) .accepted (e .answer)) + times v (values (H .pairs u)) + times v (H .retired u)
+          ≡ times v (values (H .pairs w)) + times v (H .retired w) + times v (roleOf (e .call) .handedBack (e .answer)) + times v (e .returned)
       pub emptied : (v : ℕ)
-          → times v (retired w) + times v (e .returned)
-          ≡ times v (retired u) + times v (cond (roleOf (e .call) .emptying) (lost (capacity size) t (tableStep size t (e .call) .after)) [])
+          → times v (H .retired w) + times v (e .returned)
+          ≡ times v (H .retired u) + times v (cond (roleOf (e .call) .emptying) (lost (capacity size) (t .pairs) (tableStep size t (e .call) .after .pairs)) [])
 
     -- what is asked of a state that stands for the table t
-    pub record Seen (w : W) (t : Table) : Type 0 where
-      pub live : SamePairs (pairs w) (pairsBelow (capacity size) t)
-      pub count : len w ≡ length (pairs w)
-      pub held : retiredHeld w ≡ length (retired w)
+    pub record Seen (w : W) (t : TableState) : Type 0 where
+      pub sound : H .Sound w
+      pub live : SamePairs (H .pairs w) (pairsBelow (capacity size) (t .pairs))
+      pub once : (s v : ℕ) → copies s v (H .pairs w) ≤ 1
+      pub count : H .len w ≡ length (H .pairs w)
+      pub held : H .retiredHeld w ≡ length (H .retired w)
 
     -- what is asked of a state with which a history may begin
-    pub record Start (Good : W → Table → Type 0) (w : W) : Type 0 where
-      pub good : Good w fresh
-      pub no-live : (v : ℕ) → times v (values (pairs w)) ≡ 0
-      pub no-retired : (v : ℕ) → times v (retired w) ≡ 0
+    pub record Start (Good : W → TableState → Type 0) (w : W) : Type 0 where
+      pub good : Good w freshTable
+      pub no-live : (v : ℕ) → times v (values (H .pairs w)) ≡ 0
+      pub no-retired : (v : ℕ) → times v (H .retired w) ≡ 0
 
-    module _ (Good : W → Table → Type 0)
-        (keeps : (t : Table) (u w : W) (e : Entry) → Good u t → Met u e w → Kept Good t u e w)
-        (seen : (t : Table) (w : W) → Good w t → Seen w t)
-        (halves : (t : Table) (u w : W) (e : Entry) (b : ℕ) → Good u t → Met u e w → e .call ≡ release-retired b true → b ≤ 256
-        → length (retired w) ≤ length (retired u) - b / 2) where
+    module _ (Good : W → TableState → Type 0)
+        (keeps : (t : TableState) (u w : W) (e : Entry) → Good u t → H .Met u e w → Kept Good t u e w)
+        (seen : (t : TableState) (w : W) → Good w t → Seen w t)
+        (halves : (t : TableState) (u w : W) (e : Entry) (b : ℕ) → Good u t → H .Met u e w → e .call ≡ release-retired b true → b ≤ 256
+        → length (H .retired w) ≤ length (H .retired u) - b / 2) where
       -- the same of a history: from state u, which stands for t, over the entries es, to state w
-      record KeptAll (t : Table) (u : W) (es : List Entry) (w : W) : Type 0 where
+      record KeptAll (t : TableState) (u : W) (es : List Entry) (w : W) : Type 0 where
         good : Good w (tableAfter size t (callsOf es))
         answers : answersOf es ≡ tableAnswers size t (callsOf es)
+        shared : sharedOf es ≡ tableAnswers size t (common (callsOf es))
         whole : (v : ℕ)
-            → times v (acceptedOf es) + times v (values (pairs u)) + times v (retired u)
-            ≡ times v (values (pairs w)) + times v (retired w) + times v (handedBackOf es) + times v (returnedOf es)
-        emptied : (v : ℕ) → times v (retired w) + times v (returnedOf es) ≡ times v (retired u) + times v (tableEmptied size t (callsOf es))
+            → times v (acceptedOf es) + times v (values (H .pairs u)) + times v (H .retired u)
+            ≡ times v (values (H .pairs w)) + times v (H .retired w) + times v (handedBackOf es) + times v (returnedOf es)
+        emptied : (v : ℕ) → times v (H .retired w) + times v (returnedOf es) ≡ times v (H .retired u) + times v (tableEmptied size t (callsOf es))
 
       -- by induction over the history
-      history-keeps : {u w : W} {es : List Entry} (t : Table) → Good u t → History W Met u es w → KeptAll t u es w
-      history-keeps t g begun = record { good = g; answers = refl; whole = λ v. omega arith; emptied = λ v. omega arith }
+      history-keeps : {u w : W} {es : List Entry} (t : TableState) → Good u t → History H u es w → KeptAll t u es w
+      history-keeps t g begun = record { good = g; answers = refl; shared = refl; whole = λ v. omega arith; emptied = λ v. omega arith }
       history-keeps {u} {w} t g (goes-on {v = x} {e = e} {es = es} m h) =
           let k = keeps t u x e g m in
           let s = tableStep size t (e .call) .after in
           let i = history-keeps s (k .good) h in
           record {
             good = i .good;
-            answers = cc (k .answers, i .answers);
+            answers = λ d. k .answer d ∷ i .answers d;
+            shared = bool (roleOf (e .call) .release)
+                (λ r. rw r (i .shared ∙ ap (λ (x : TableState). tableAnswers size x (common (callsOf es))) (release-still size t (e .call) r)))
+                (λ r. rw r (λ d. k .answer d ∷ i .shared d));
             whole = λ v. simp times-append (omega (arith, k .whole v, i .whole v));
             emptied = λ v. simp times-append (omega (arith, k .emptied v, i .emptied v));
           }
 
       -- calls of release_retired whose halves add up to the retired count leave none
-      visits-drain : {u w : W} {es : List Entry} {n : ℕ} (t : Table) → Good u t → Visits es n → History W Met u es w → length (retired u) ≤ n → length (retired w) ≡ 0
+      visits-drain : {u w : W} {es : List Entry} {n : ℕ} (t : TableState) → Good u t → Visits es n → History H u es w → length (H .retired u) ≤ n → length (H .retired w) ≡ 0
       visits-drain t g no-visit begun h = omega arith
       visits-drain {u} {w} t g (visit {e = e} b c l vs) (goes-on {v = x} m k) h =
           visits-drain (tableStep size t (e .call) .after) (keeps t u x e g m .good) vs k (omega (arith, halves t u x e b g m c l))
 
-      history-after : {u w : W} {es : List Entry} → Start Good u → History W Met u es w → After W Met pairs retired retiredHeld len size w es
+      history-after : {u w : W} {es : List Entry} → Start Good u → History H u es w → After H size w es
       history-after {u} {w} {es} b h =
-          let k = history-keeps fresh (b .good) h in
-          let s = seen (tableAfter size fresh (callsOf es)) w (k .good) in
+          let k = history-keeps freshTable (b .good) h in
+          let s = seen (tableAfter size freshTable (callsOf es)) w (k .good) in
           record {
+            sound = s .sound;
             live = s .live;
+            once = s .once;
             count = s .count;
             answers = k .answers;
             whole = λ v. omega (arith, k .whole v, b .no-live v, b .no-retired v);
             held = s .held;
             emptied = λ v. omega (arith, k .emptied v, b .no-retired v);
-            drained = λ visits n z vs i l. no-length (retired z) (visits-drain (tableAfter size fresh (callsOf es)) (k .good) vs i l);
+            drained = λ visits n z vs i l. no-length (H .retired z) (visits-drain (tableAfter size freshTable (callsOf es)) (k .good) vs i l);
           }
 
       -- the two heads are compared only through the plain table over the common list
-      histories-agree : {a b v w : W} {xs ys : List Entry} → Start Good a → Start Good b → History W Met a xs v → History W Met b ys w
-          → common (callsOf xs) ≡ common (callsOf ys) → Agree W Met pairs retired retiredHeld len size v w xs ys
+      histories-agree : {a b v w : W} {xs ys : List Entry} → Start Good a → Start Good b → History H a xs v → History H b ys w
+          → common (callsOf xs) ≡ common (callsOf ys) → Agree H size v w xs ys
       unfolding SamePairs
       histories-agree {xs = xs} {ys = ys} i j g h e =
           let x = history-after i g in
           let y = history-after j h in
-          let answers : tableAnswers size fresh (callsOf xs) ≡ tableAnswers size fresh (callsOf ys)
-          = sym (common-answers size fresh (callsOf xs)) ∙ ap (tableAnswers size fresh) e ∙ common-answers size fresh (callsOf ys) in
-          let table : tableAfter size fresh (callsOf xs) ≡ tableAfter size fresh (callsOf ys)
-          = sym (common-table size fresh (callsOf xs)) ∙ ap (tableAfter size fresh) e ∙ common-table size fresh (callsOf ys) in
+          let table : tableAfter size freshTable (callsOf xs) ≡ tableAfter size freshTable (callsOf ys)
+          = sym (common-table size freshTable (callsOf xs)) ∙ ap (tableAfter size freshTable) e ∙ common-table size freshTable (callsOf ys) in
           record {
             first = x;
             second = y;
-            same-answers = x .answers ∙ answers ∙ sym (y .answers);
-            same-pairs = λ s n. x .live s n ∙ ap (λ (t : Table). copies s n (pairsBelow (capacity size) t)) table ∙ sym (y .live s n);
+            same-answers =
+                history-keeps freshTable (i .good) g .shared ∙ ap (tableAnswers size freshTable) e ∙ sym (history-keeps freshTable (j .good) h .shared);
+            same-pairs = λ s n. x .live s n ∙ ap (λ (t : TableState). copies s n (pairsBelow (capacity size) (t .pairs))) table ∙ sym (y .live s n);
           }
 
       -- at the ends by `histories-agree`, after each call by the same of the first calls
-      pub histories-demand3 : {a b v w : W} {xs ys : List Entry} → Start Good a → Start Good b → (g : History W Met a xs v) (h : History W Met b ys w)
-          → common (callsOf xs) ≡ common (callsOf ys) → Demand3 W Met pairs retired retiredHeld len size g h
+      pub histories-demand3 : {a b v w : W} {xs ys : List Entry} → Start Good a → Start Good b → (g : History H a xs v) (h : History H b ys w)
+          → common (callsOf xs) ≡ common (callsOf ys) → Demand3 H size g h
       histories-demand3 {xs = xs} {ys = ys} i j g h e = record {
         ends = histories-agree i j g h e;
         each-first = common-first xs ys e;

@@ -7,7 +7,6 @@ pub mod Sweeping
 pub mod Keeping
 pub mod Histories
 pub mod Carrying
-pub mod OverPositions
 pub mod Refusing
 pub mod Strangers
 pub mod Beginning

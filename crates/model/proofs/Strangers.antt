@@ -12,10 +12,10 @@ use Rattle.words.specs.First.{firstRound}
 use Rattle.words.specs.FirstLaws.{round-le, round-held, round-none}
 use Rattle.window.specs.Memory.{position}
 use Rattle.window.specs.MemoryLaws.{position-lt}
-use Rattle.model.specs.Calls.{stranger, Answer, done, new, replaced, absent, found, pair, released, refused}
-use Rattle.model.specs.Table.{Pair, pairOf, rangeCount, covers}
+use Rattle.model.specs.Calls.{stranger, ask, Answer, done, new, replaced, absent, found, pair, released, refused}
+use Rattle.model.specs.Table.{Pair, pairOf, rangeCount, covers, isStranger, pairAnswer, strangerIn, known, argumentRefusal}
 use Rattle.model.specs.Window.{Window, sizeOf, capacityOf, liveAt}
-use Rattle.model.specs.Steps.{isStranger, pairAnswer, strangerIn, windowStep, windowDoes}
+use Rattle.model.specs.Steps.{windowStep, windowDoes}
 use Rattle.model.specs.Strangers.{StrangerAt, Tells}
 
 -- the pair of an answer, if it is one
@@ -65,7 +65,7 @@ module _ (w : Window) (first last : ℕ) where
     either = inl refl;
   }
 
-  tells : Tells w first last (strangerIn w first last)
+  tells : Tells w first last (strangerIn (sizeOf w) (liveAt w) first last)
   unfolding strangerIn
   tells =
       let q = firstRound P (capacityOf w) start in
@@ -76,6 +76,6 @@ module _ (w : Window) (first last : ℕ) where
       rw i (tells-none (round-none P (capacityOf w) start low e)))
 
   -- the call, where its count is not refused
-  pub stranger-tells : leb (rangeCount first last) (sizeOf w) ≡ true → Tells w first last (windowStep w (stranger first last) .answer)
+  pub stranger-tells : leb (rangeCount first last) (sizeOf w) ≡ true → Tells w first last (windowStep w (ask (stranger first last)) .answer)
   unfolding windowDoes
   stranger-tells taken = rw taken tells

@@ -2,21 +2,25 @@
 use mathlib.Core.Bool.{Bool}
 use Prim.Native.Nat.{ℕ}
 
--- The calls that a list of calls may hold, with their arguments. Of a return list only this is told, in `listed`: whether it has 384 places.
+-- The calls that change nothing, with their arguments.
+pub data Query : Type 0 where
+  get : (sequence : ℕ) → Query
+  successor-after : (sequence : ℕ) → Query
+  first-from : (sequence : ℕ) → Query
+  iter : (cell : ℕ) → Query
+  stranger : (first last : ℕ) → Query
+  check : Query
+
+-- The calls that a list of calls may hold. Of a return list only this is told, in `listed`: whether it has 384 places.
 pub data Call : Type 0 where
   insert : (sequence value : ℕ) (listed : Bool) → Call
-  get : (sequence : ℕ) → Call
   exchange : (sequence value : ℕ) → Call
   remove : (sequence : ℕ) → Call
-  successor-after : (sequence : ℕ) → Call
-  first-from : (sequence : ℕ) → Call
   remove-range : (first last : ℕ) (listed : Bool) → Call
   clear : (listed : Bool) → Call
   clear-bounded : (number : ℕ) (listed : Bool) → Call
   release-retired : (budget : ℕ) (listed : Bool) → Call
-  iter : (cell : ℕ) → Call
-  stranger : (first last : ℕ) → Call
-  check : Call
+  ask : (query : Query) → Call
 
 -- What a call answers, beside its return list.
 pub data Answer : Type 0 where

@@ -1,4 +1,4 @@
--- Demand 3 of document 00, as one type about whole histories of two heads. What a head is stays open here: its states, which
+-- Demands 2 and 3 of document 00, as one type about whole histories of two heads. What a head is stays open here: its states, which
 -- step may follow which, and what is seen of a state. Definitions and statements only. Assumes nothing.
 use mathlib.Core.Path.{_≡_}
 use mathlib.Core.Bool.{Bool, true, false, cond, _&&_}
@@ -9,8 +9,8 @@ use lib.Dec.{eqb}
 use lib.ListN.{length, take}
 use Rattle.window.specs.Memory.{capacity}
 use Rattle.model.specs.Calls.{Call, release-retired, Answer}
-use Rattle.model.specs.Table.{Pair, Table, fresh, tableStep}
-use Rattle.model.specs.Roles.{roleOf}
+use Rattle.model.specs.Table.{Pair, Table, TableState, freshTable, tableStep}
+use Rattle.model.specs.Roles.{roleOf, toldOf}
 
 -- ---- counting with repeats
 
@@ -57,24 +57,19 @@ abbrev pub lost : ℕ → Table → Table → List ℕ
 lost zero t u = []
 lost (suc n) t u = lose (t n) (u n) (lost n t u)
 
-abbrev pub listOf : Option Answer → List Answer
-listOf none = []
-listOf (some a) = a ∷ []
-
--- the table after the calls; its answers to those whose answers are shared; the values that emptying calls emptied
-abbrev pub tableAfter : ℕ → Table → List Call → Table
+-- the table after the calls; what it tells of each answer; the values that emptying calls emptied
+abbrev pub tableAfter : ℕ → TableState → List Call → TableState
 tableAfter size t [] = t
 tableAfter size t (c ∷ cs) = tableAfter size (tableStep size t c .after) cs
 
-abbrev pub tableAnswers : ℕ → Table → List Call → List Answer
+abbrev pub tableAnswers : ℕ → TableState → List Call → List (Option Answer)
 tableAnswers size t [] = []
-tableAnswers size t (c ∷ cs) =
-    cond (roleOf c .shared) (listOf (tableStep size t c .answer)) [] ++ tableAnswers size (tableStep size t c .after) cs
+tableAnswers size t (c ∷ cs) = toldOf (roleOf c) (tableStep size t c .answer) ∷ tableAnswers size (tableStep size t c .after) cs
 
-abbrev pub tableEmptied : ℕ → Table → List Call → List ℕ
+abbrev pub tableEmptied : ℕ → TableState → List Call → List ℕ
 tableEmptied size t [] = []
 tableEmptied size t (c ∷ cs) =
-    cond (roleOf c .emptying) (lost (capacity size) t (tableStep size t c .after)) [] ++ tableEmptied size (tableStep size t c .after) cs
+    cond (roleOf c .emptying) (lost (capacity size) (t .pairs) (tableStep size t c .after .pairs)) [] ++ tableEmptied size (tableStep size t c .after) cs
 
 -- ---- a head's history
 
@@ -93,9 +88,14 @@ abbrev pub common : List Call → List Call
 common [] = []
 common (c ∷ cs) = cond (roleOf c .release) [] (c ∷ []) ++ common cs
 
-abbrev pub answersOf : List Entry → List Answer
+-- what the table tells of each answer, as the head gave it; the same of the calls of the common list
+abbrev pub answersOf : List Entry → List (Option Answer)
 answersOf [] = []
-answersOf (e ∷ es) = cond (roleOf (e .call) .shared) (e .answer ∷ []) [] ++ answersOf es
+answersOf (e ∷ es) = roleOf (e .call) .told (e .answer) ∷ answersOf es
+
+abbrev pub sharedOf : List Entry → List (Option Answer)
+sharedOf [] = []
+sharedOf (e ∷ es) = cond (roleOf (e .call) .release) [] (roleOf (e .call) .told (e .answer) ∷ []) ++ sharedOf es
 
 abbrev pub acceptedOf : List Entry → List ℕ
 acceptedOf [] = []
@@ -116,49 +116,63 @@ pub data Visits : List Entry → ℕ → Type 0 where
   visit : {e : Entry} {es : List Entry} {halves : ℕ} (budget : ℕ) → e .call ≡ release-retired budget true → budget ≤ 256
       → Visits es halves → Visits (e ∷ es) (budget / 2 + halves)
 
--- A head: its states, and Met u e v, that a call in state u may give this entry and leave state v.
-module _ (W : Type 0) (Met : W → Entry → W → Type 0) where
+-- What a head is: its states, which call may be made in which and what it leaves, which states are sound, and what is seen of a state.
+pub record Head : Type 1 where
+  pub State : Type 0
+  -- a call in state u may give this entry and leave state v
+  pub Met : State → Entry → State → Type 0
+  pub Sound : State → Type 0
+  -- "Live pairs are those iter gives from 0 until done"
+  pub pairs : State → List Pair
+  -- "Retired are the values in cells in use that iter does not reach"
+  pub retired : State → List ℕ
+  pub retiredHeld : State → ℕ
+  pub len : State → ℕ
+
+module _ (H : Head) where
   -- "Each call gets header and memory as the last left them; nobody else writes them."
-  pub data History : W → List Entry → W → Type 0 where
-    begun : {u : W} → History u [] u
-    goes-on : {u v w : W} {e : Entry} {es : List Entry} → Met u e v → History v es w → History u (e ∷ es) w
+  pub data History : H .State → List Entry → H .State → Type 0 where
+    begun : {u : H .State} → History u [] u
+    goes-on : {u v w : H .State} {e : Entry} {es : List Entry} → H .Met u e v → History v es w → History u (e ∷ es) w
 
   -- the state after the first k calls
-  abbrev pub stateAfter : {u w : W} {es : List Entry} → ℕ → History u es w → W
+  abbrev pub stateAfter : {u w : H .State} {es : List Entry} → ℕ → History u es w → H .State
   stateAfter {u} k begun = u
   stateAfter {u} zero (goes-on m h) = u
   stateAfter (suc k) (goes-on m h) = stateAfter k h
 
-  -- What is seen of a state: "Live pairs are those iter gives from 0 until done", "Retired are the values in cells in use that iter
-  -- does not reach", and the header's retired_held and len.
-  module _ (pairs : W → List Pair) (retired : W → List ℕ) (retiredHeld len : W → ℕ) (size : ℕ) where
+  module _ (size : ℕ) where
     -- what holds of one head, in state w after the entries es
-    pub record After (w : W) (es : List Entry) : Type 0 where
-      -- "after each call the live pairs: those of the plain table"; "len is their number"
-      pub live : SamePairs (pairs w) (pairsBelow (capacity size) (tableAfter size fresh (callsOf es)))
-      pub count : len w ≡ length (pairs w)
-      -- "the answers are proved to be those of document 01's plain table" (demand 2)
-      pub answers : answersOf es ≡ tableAnswers size fresh (callsOf es)
+    pub record After (w : H .State) (es : List Entry) : Type 0 where
+      -- "Every call keeps a sound state sound"
+      pub sound : H .Sound w
+      -- "after each call the live pairs: those of the plain table"; "each once"; "len is their number"
+      pub live : SamePairs (H .pairs w) (pairsBelow (capacity size) (tableAfter size freshTable (callsOf es) .pairs))
+      pub once : (s v : ℕ) → copies s v (H .pairs w) ≤ 1
+      pub count : H .len w ≡ length (H .pairs w)
+      -- "the answers are proved to be those of document 01's plain table" (demand 2): of each call what the table tells
+      pub answers : answersOf es ≡ tableAnswers size freshTable (callsOf es)
       -- "the accepted values, counted with repeats, are exactly the live, the retired and the handed back"
-      pub whole : (v : ℕ) → times v (acceptedOf es) ≡ times v (values (pairs w)) + times v (retired w) + times v (handedBackOf es) + times v (returnedOf es)
+      pub whole : (v : ℕ) → times v (acceptedOf es) ≡ times v (values (H .pairs w)) + times v (H .retired w) + times v (handedBackOf es) + times v (returnedOf es)
       -- "and retired_held counts the retired"
-      pub held : retiredHeld w ≡ length (retired w)
+      pub held : H .retiredHeld w ≡ length (H .retired w)
       -- "with those in all return lists they are exactly the values that remove_range, clear and clear_bounded emptied in the table"
-      pub emptied : (v : ℕ) → times v (retired w) + times v (returnedOf es) ≡ times v (tableEmptied size fresh (callsOf es))
+      pub emptied : (v : ℕ) → times v (H .retired w) + times v (returnedOf es) ≡ times v (tableEmptied size freshTable (callsOf es))
       -- "the budgets' halves rounded down adding up to at least the retired count, leave none retired"
-      pub drained : (visits : List Entry) (halves : ℕ) (z : W) → Visits visits halves → History w visits z → length (retired w) ≤ halves → retired z ≡ []
+      pub drained : (visits : List Entry) (halves : ℕ) (z : H .State) → Visits visits halves → History w visits z → length (H .retired w) ≤ halves → H .retired z ≡ []
 
     -- two heads, in states v and w after the entries xs and ys
-    pub record Agree (v w : W) (xs ys : List Entry) : Type 0 where
+    pub record Agree (v w : H .State) (xs ys : List Entry) : Type 0 where
       pub first : After v xs
       pub second : After w ys
-      -- "A and B share each answer of the first seven named, and after each call the live pairs"
-      pub same-answers : answersOf xs ≡ answersOf ys
-      pub same-pairs : SamePairs (pairs v) (pairs w)
+      -- "A and B share each answer of the first seven named, and after each call the live pairs"; also the answers of clear and check,
+      -- and whether stranger gives a pair
+      pub same-answers : sharedOf xs ≡ sharedOf ys
+      pub same-pairs : SamePairs (H .pairs v) (H .pairs w)
 
     -- two histories of one common list: at their ends, and after each call of either. For each place in the one there is a place in
     -- the other where the same calls of the common list were made, and at any two such places the heads agree.
-    pub record Demand3 {a b v w : W} {xs ys : List Entry} (g : History a xs v) (h : History b ys w) : Type 0 where
+    pub record Demand3 {a b v w : H .State} {xs ys : List Entry} (g : History a xs v) (h : History b ys w) : Type 0 where
       pub ends : Agree v w xs ys
       pub each-first : (k : ℕ) → (j : ℕ) × (common (callsOf (take k xs)) ≡ common (callsOf (take j ys)))
       pub each-second : (j : ℕ) → (k : ℕ) × (common (callsOf (take k xs)) ≡ common (callsOf (take j ys)))

@@ -1,8 +1,8 @@
--- Definitions and statements, in reading order: the calls, the plain table, what demand 3 counts of a call, demand 3; then the
+-- Definitions and statements, in reading order: the calls, a row for each of them, the plain table, demand 3; then the
 -- window seen from its positions, and what a head owes so that demand 3 holds of it. No proofs: those are in proofs/.
 pub mod Calls
-pub mod Table
 pub mod Roles
+pub mod Table
 pub mod Demand3
 pub mod Window
 pub mod Pages

@@ -9,8 +9,8 @@ use lib.Dec.{leb, ltb, eqb}
 use lib.ListN.{length}
 use Rattle.words.specs.First.{firstRound}
 use Rattle.window.specs.Memory.{capacity, pageCount, position}
-use Rattle.model.specs.Calls.{Call, insert, get, exchange, remove, successor-after, first-from, remove-range, clear, clear-bounded, release-retired, iter, stranger, check, Answer, done, found, released, refused}
-use Rattle.model.specs.Table.{Pair, Table, fresh, at, held, valueIf, putAt, putAnswer, exchangeAt, removeAt, rangeCount, argumentRefusal, within, sum, heldInRange, searchFrom}
+use Rattle.model.specs.Calls.{Call, insert, exchange, remove, remove-range, clear, clear-bounded, release-retired, ask, Answer, done, found, released, refused}
+use Rattle.model.specs.Table.{Pair, Table, fresh, at, held, valueIf, putAt, putAnswer, exchangeAt, removeAt, rangeCount, known, argumentRefusal, within, sum, heldInRange, TableState, tableAnswer}
 
 pub record Positions : Type 0 where
   pub live : Table
@@ -19,6 +19,10 @@ pub record Positions : Type 0 where
 
 abbrev pub positions : Table → Table → ℕ → Positions
 positions live retired cursor = record { live = live; retired = retired; cursor = cursor }
+
+-- what the plain table has of them
+abbrev pub plain : Positions → TableState
+plain w = record { pairs = w .live }
 
 -- ---- taking pairs out
 
@@ -161,31 +165,24 @@ does size w (insert s v listed) =
     let p = position size s in
     let d = drain 64 (64 * (p / 64)) 64 (w .retired) in
     result (positions (at (w .live) p (putAt s v (w .live p))) (d .left) (w .cursor)) (some (putAnswer s (w .live p))) (d .out)
-does size w (get s) = stays w (some (valueIf s (w .live (position size s))))
 does size w (exchange s v) =
     let p = position size s in
     stays (positions (at (w .live) p (exchangeAt s v (w .live p))) (w .retired) (w .cursor)) (some (valueIf s (w .live p)))
 does size w (remove s) =
     let p = position size s in
     stays (positions (at (w .live) p (removeAt s (w .live p))) (w .retired) (w .cursor)) (some (valueIf s (w .live p)))
-does size w (successor-after s) = stays w (some (searchFrom (capacity size) (w .live) (position size (s + 1))))
-does size w (first-from s) = stays w (some (searchFrom (capacity size) (w .live) (position size s)))
-does size w (remove-range a b listed) =
-    rangeStep size w (position size a) (rangeCount a b)
-does size w (clear listed) =
-    thenRelease (pageCount size) fresh (moved 0 (capacity size) (w .live) (w .retired)) (w .cursor) [] done
+does size w (remove-range a b listed) = rangeStep size w (position size a) (rangeCount a b)
+does size w (clear listed) = thenRelease (pageCount size) fresh (moved 0 (capacity size) (w .live) (w .retired)) (w .cursor) [] done
 does size w (clear-bounded n listed) =
     let d = drain (capacity size) 0 n (moved 0 (capacity size) (w .live) (w .retired)) in
     result (positions fresh (d .left) (w .cursor)) (some (found (length (d .out)))) (d .out)
 does size w (release-retired b listed) =
     let r = release (pageCount size) b b (w .retired) (w .cursor) in
     result (positions (w .live) (r .retired) (r .cursor)) (some (released (length (r .out)) (r .units))) (r .out)
-does size w (iter cell) = stays w none
-does size w (stranger a b) = stays w none
-does size w check = stays w none
+does size w (ask q) = stays w (tableAnswer size (plain w) q)
 
 abbrev pub step : ℕ → Positions → Call → Result
-step size w c = unlessRefused (argumentRefusal size c) w (does size w c)
+step size w c = unlessRefused (argumentRefusal (known size) c) w (does size w c)
 
 abbrev pub freshPositions : Positions
 freshPositions = positions fresh fresh 0

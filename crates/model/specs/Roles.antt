@@ -1,9 +1,18 @@
--- What demand 3 counts of a call: whether A and B share its answer, which values it accepts and hands back, whether it empties
--- positions. A call has one of eight roles; the role answers these questions. Definitions only. Assumes nothing.
+-- What is asked of a call besides what it does, one row for each: the arguments that a refusal looks at, its return list, what the
+-- plain table tells of its answer, and what demand 3 counts of it. Definitions only. Assumes nothing.
 use mathlib.Core.Bool.{Bool, true, false}
+use mathlib.Core.Option.{Option, none, some}
 use mathlib.Core.List.{List, [], _∷_}
 use Prim.Native.Nat.{ℕ}
-use Rattle.model.specs.Calls.{Call, insert, get, exchange, remove, successor-after, first-from, remove-range, clear, clear-bounded, release-retired, iter, stranger, check, Answer, done, new, replaced, absent, found, pair, released, refused}
+use Rattle.model.specs.Calls.{Query, get, successor-after, first-from, iter, stranger, check, Call, insert, exchange, remove, remove-range, clear, clear-bounded, release-retired, ask, Answer, done, new, replaced, absent, found, pair, released, refused}
+
+-- ---- the arguments that a refusal looks at
+
+pub data Arguments : Type 0 where
+  no-argument : Arguments
+  sequence-argument : ℕ → Arguments
+  range-argument : (first last : ℕ) → Arguments
+  number-argument : ℕ → Arguments
 
 -- ---- what an answer says of values
 
@@ -43,11 +52,42 @@ ifFound v (refused k) = []
 abbrev pub nothing : Answer → List ℕ
 nothing a = []
 
+-- ---- what the plain table tells of an answer
+
+-- all of it
+abbrev pub whole : Answer → Option Answer
+whole a = some a
+
+-- "which pair stranger gives" is free; whether it gives one is told
+abbrev pub whether : Answer → Option Answer
+whether done = some done
+whether new = some new
+whether (replaced v) = some (replaced v)
+whether absent = some absent
+whether (found n) = some (found n)
+whether (pair s v next) = some (pair 0 0 0)
+whether (released values units) = some (released values units)
+whether (refused k) = some (refused k)
+
+-- "Not in the table ..: what release_retired answers, the number clear_bounded released, .. iteration order": a refusal alone
+abbrev pub ifRefused : Answer → Option Answer
+ifRefused done = none
+ifRefused new = none
+ifRefused (replaced v) = none
+ifRefused absent = none
+ifRefused (found n) = none
+ifRefused (pair s v next) = none
+ifRefused (released values units) = none
+ifRefused (refused k) = some (refused k)
+
 -- ---- roles
 
 pub record Role : Type 0 where
-  -- "A and B share each answer of the first seven named": insert, get, exchange, remove, successor_after, first_from, remove_range
-  pub shared : Bool
+  pub arguments : Arguments
+  -- whether its return list has 384 places; none for a call that takes no list
+  pub listed : Option Bool
+  -- what the plain table tells of its answer
+  pub told : Answer → Option Answer
   -- "Accepted in demand 3 are the values of inserts not refused and of exchanges that found their sequence"
   pub accepted : Answer → List ℕ
   -- "handed back are old values given by insert and exchange, values given by remove" (and all return lists)
@@ -56,46 +96,51 @@ pub record Role : Type 0 where
   pub emptying : Bool
   -- a call of release_retired, which the common list does not hold
   pub release : Bool
+  -- "check: then 7, exactly if not sound"
+  pub checks : Bool
 
-abbrev pub role : Bool → (Answer → List ℕ) → (Answer → List ℕ) → Bool → Bool → Role
-role shared accepted handedBack emptying release =
-    record { shared = shared; accepted = accepted; handedBack = handedBack; emptying = emptying; release = release }
+abbrev pub role : Arguments → Option Bool → (Answer → Option Answer) → (accepted handedBack : Answer → List ℕ) → (emptying release checks : Bool) → Role
+role arguments listed told accepted handedBack emptying release checks = record {
+  arguments = arguments;
+  listed = listed;
+  told = told;
+  accepted = accepted;
+  handedBack = handedBack;
+  emptying = emptying;
+  release = release;
+  checks = checks;
+}
 
-abbrev pub inserting : ℕ → Role
-inserting v = role true (unlessRefused v) given false false
+-- of a call that changes nothing only this is asked
+pub record Asked : Type 0 where
+  pub arguments : Arguments
+  pub told : Answer → Option Answer
+  pub checks : Bool
 
-abbrev pub exchanging : ℕ → Role
-exchanging v = role true (ifFound v) given false false
+abbrev pub asked : Arguments → (Answer → Option Answer) → Bool → Asked
+asked arguments told checks = record { arguments = arguments; told = told; checks = checks }
 
-abbrev pub removing : Role
-removing = role true nothing given false false
+-- arguments, told, check
+abbrev pub askedOf : Query → Asked
+askedOf (get s) = asked (sequence-argument s) whole false
+askedOf (successor-after s) = asked (sequence-argument s) whole false
+askedOf (first-from s) = asked (sequence-argument s) whole false
+askedOf (iter cell) = asked no-argument ifRefused false
+askedOf (stranger a b) = asked (range-argument a b) whether false
+askedOf check = asked no-argument whole true
 
-abbrev pub asking : Role
-asking = role true nothing nothing false false
-
-abbrev pub removingRange : Role
-removingRange = role true nothing nothing true false
-
-abbrev pub clearing : Role
-clearing = role false nothing nothing true false
-
-abbrev pub releasing : Role
-releasing = role false nothing nothing false true
-
-abbrev pub inspecting : Role
-inspecting = role false nothing nothing false false
-
+-- arguments, return list, told, accepted, handed back; emptying, release, check
 abbrev pub roleOf : Call → Role
-roleOf (insert s v listed) = inserting v
-roleOf (get s) = asking
-roleOf (exchange s v) = exchanging v
-roleOf (remove s) = removing
-roleOf (successor-after s) = asking
-roleOf (first-from s) = asking
-roleOf (remove-range a b listed) = removingRange
-roleOf (clear listed) = clearing
-roleOf (clear-bounded n listed) = clearing
-roleOf (release-retired b listed) = releasing
-roleOf (iter cell) = inspecting
-roleOf (stranger a b) = inspecting
-roleOf check = inspecting
+roleOf (insert s v listed) = role (sequence-argument s) (some listed) whole (unlessRefused v) given false false false
+roleOf (exchange s v) = role (sequence-argument s) none whole (ifFound v) given false false false
+roleOf (remove s) = role (sequence-argument s) none whole nothing given false false false
+roleOf (remove-range a b listed) = role (range-argument a b) (some listed) whole nothing nothing true false false
+roleOf (clear listed) = role no-argument (some listed) whole nothing nothing true false false
+roleOf (clear-bounded n listed) = role (number-argument n) (some listed) ifRefused nothing nothing true false false
+roleOf (release-retired b listed) = role (number-argument b) (some listed) ifRefused nothing nothing false true false
+roleOf (ask q) = role (askedOf q .arguments) none (askedOf q .told) nothing nothing false false (askedOf q .checks)
+
+-- what is told of an answer that may not be in the table
+abbrev pub toldOf : Role → Option Answer → Option Answer
+toldOf r none = none
+toldOf r (some a) = r .told a

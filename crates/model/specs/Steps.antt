@@ -10,8 +10,8 @@ use Rattle.words.specs.First.{firstRound}
 use Rattle.words.specs.Word.{isSet, withBit, setBit, clearBit, wordOf, span}
 use Rattle.window.specs.declared.AdaptiveReceiverPacketWindow.{AdaptiveReceiverPacketWindow}
 use Rattle.window.specs.Memory.{position}
-use Rattle.model.specs.Calls.{Call, insert, get, exchange, remove, successor-after, first-from, remove-range, clear, clear-bounded, release-retired, iter, stranger, check, Answer, done, new, replaced, absent, found, pair, released, refused}
-use Rattle.model.specs.Table.{Pair, valueIf, rangeCount, argumentRefusal, within, covers, sum, heldInRange, searchFrom}
+use Rattle.model.specs.Calls.{Query, get, successor-after, first-from, iter, stranger, check, Call, insert, exchange, remove, remove-range, clear, clear-bounded, release-retired, ask, Answer, done, new, replaced, absent, found, pair, released, refused}
+use Rattle.model.specs.Table.{Pair, valueIf, rangeCount, within, sum, heldInRange, searchFrom, strangerIn, Known, known, argumentRefusal}
 use Rattle.model.specs.Demand3.{one}
 use Rattle.model.specs.Window.{Page, Block, Window, window, upd, sizeOf, capacityOf, pagesOf, blocksOf, cellOf, isRetired, liveAt, iterStep}
 use Rattle.model.specs.Pages.{valuesIn, holdsValue, setValue, takeCell, unlessEmptied, demotes, afterRemoval, insertPage, drainPage}
@@ -261,24 +261,6 @@ releasePages (suc n) g (suc k) w =
     let r = releasePages n (suc g) (suc k - length (p .out)) (p .after) in
     returnedBy (r .after) (p .out ++ r .out)
 
--- ---- stranger
-
--- a sequence's "distance from first (as in count, less 1) is count or more, or whose top bit is set"
-abbrev pub isStranger : ℕ → ℕ → Option Pair → Bool
-isStranger first count none = false
-isStranger first count (some e) = leb (count + 1) (rangeCount first (e .sequence)) || leb (2 ^ 31) (e .sequence)
-
-abbrev pub pairAnswer : Option Pair → Answer
-pairAnswer none = absent
-pairAnswer (some e) = pair (e .sequence) (e .value) 0
-
--- "some live pair at a position of first..last": the first of them by position from first's, round the capacity
-unfoldable pub strangerIn : Window → ℕ → ℕ → Answer
-strangerIn w first last =
-    let start = position (sizeOf w) first in
-    let q = firstRound (λ (r : ℕ). covers (capacityOf w) start (rangeCount first last) r && isStranger first (rangeCount first last) (liveAt w r)) (capacityOf w) start in
-    cond (ltb q (capacityOf w)) (pairAnswer (liveAt w q)) absent
-
 -- ---- the calls
 
 -- the window after a call, its answer, and the values in its return list
@@ -364,21 +346,29 @@ clearBoundedStep w n = let r = releasePages (pagesOf w) 0 n (retireAll w) in eff
 unfoldable pub releaseStep : Window → ℕ → Effect
 releaseStep w b = let r = release b w in effect (r .after) (released (length (r .out)) (r .units)) (r .out)
 
+-- what a query is answered
+abbrev pub windowAnswer : Window → Query → Answer
+windowAnswer w (get s) = valueIf s (liveHere w s)
+windowAnswer w (successor-after s) = searchFrom (capacityOf w) (liveAt w) (position (sizeOf w) (s + 1))
+windowAnswer w (first-from s) = searchFrom (capacityOf w) (liveAt w) (position (sizeOf w) s)
+windowAnswer w (iter cell) = iterStep w cell
+windowAnswer w (stranger a b) = strangerIn (sizeOf w) (liveAt w) a b
+windowAnswer w check = done
+
 -- what a call does that is not refused for its arguments
 unfoldable pub windowDoes : Window → Call → Effect
 windowDoes w (insert s v listed) = insertStep w s v
-windowDoes w (get s) = effect w (valueIf s (liveHere w s)) []
 windowDoes w (exchange s v) = exchangeStep w s v
 windowDoes w (remove s) = removeStep w s
-windowDoes w (successor-after s) = effect w (searchFrom (capacityOf w) (liveAt w) (position (sizeOf w) (s + 1))) []
-windowDoes w (first-from s) = effect w (searchFrom (capacityOf w) (liveAt w) (position (sizeOf w) s)) []
 windowDoes w (remove-range a b listed) = rangeStep w (position (sizeOf w) a) (rangeCount a b)
 windowDoes w (clear listed) = clearStep w
 windowDoes w (clear-bounded n listed) = clearBoundedStep w n
 windowDoes w (release-retired b listed) = releaseStep w b
-windowDoes w (iter cell) = effect w (iterStep w cell) []
-windowDoes w (stranger a b) = effect w (strangerIn w a b) []
-windowDoes w check = effect w done []
+windowDoes w (ask q) = effect w (windowAnswer w q) []
+
+-- what refusals for arguments look at
+abbrev pub knownBy : AdaptiveReceiverPacketWindow → Known
+knownBy h = known (h .«window_size»)
 
 abbrev pub windowStep : Window → Call → Effect
-windowStep w c = unlessRefused (argumentRefusal (sizeOf w) c) w (windowDoes w c)
+windowStep w c = unlessRefused (argumentRefusal (knownBy (w .header)) c) w (windowDoes w c)

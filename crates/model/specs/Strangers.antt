@@ -6,9 +6,8 @@ use mathlib.Core.Logic.{_⊎_}
 use Prim.Native.Nat.{ℕ, _<_}
 use Rattle.window.specs.Memory.{position}
 use Rattle.model.specs.Calls.{Answer, absent, pair}
-use Rattle.model.specs.Table.{pairOf, rangeCount, covers}
+use Rattle.model.specs.Table.{pairOf, rangeCount, covers, isStranger}
 use Rattle.model.specs.Window.{Window, sizeOf, capacityOf, liveAt}
-use Rattle.model.specs.Steps.{isStranger}
 
 -- position q is "a position of first..last", and the live pair there is a stranger
 pub record StrangerAt (w : Window) (first last q : ℕ) : Type 0 where

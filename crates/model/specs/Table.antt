@@ -5,7 +5,8 @@ use Prim.Native.Nat.{ℕ, zero, suc, _+_, _-_, _%_, _^_}
 use lib.Dec.{leb, ltb, eqb}
 use Rattle.words.specs.First.{firstRound}
 use Rattle.window.specs.Memory.{capacity, position}
-use Rattle.model.specs.Calls.{Call, insert, get, exchange, remove, successor-after, first-from, remove-range, clear, clear-bounded, release-retired, iter, stranger, check, Answer, done, new, replaced, absent, found, refused}
+use Rattle.model.specs.Calls.{Query, get, successor-after, first-from, iter, stranger, check, Call, insert, exchange, remove, remove-range, clear, clear-bounded, release-retired, ask, Answer, done, new, replaced, absent, found, pair, refused}
+use Rattle.model.specs.Roles.{Arguments, no-argument, sequence-argument, range-argument, number-argument, roleOf}
 
 pub record Pair : Type 0 where
   pub sequence : ℕ
@@ -14,7 +15,7 @@ pub record Pair : Type 0 where
 abbrev pub pairOf : ℕ → ℕ → Pair
 pairOf s v = record { sequence = s; value = v }
 
--- "State: at each position nothing (as when fresh) or one (sequence, value)."
+-- at each position nothing or one (sequence, value)
 abbrev pub Table : Type 0
 Table = ℕ → Option Pair
 
@@ -98,67 +99,118 @@ searchFrom cap t p =
     let q = firstRound (λ (r : ℕ). holds (t r)) cap p in
     cond (ltb q cap) (sequenceOf (t q)) absent
 
+-- ---- stranger
+
+-- a sequence's "distance from first (as in count, less 1) is count or more, or whose top bit is set"
+abbrev pub isStranger : ℕ → ℕ → Option Pair → Bool
+isStranger first count none = false
+isStranger first count (some e) = leb (count + 1) (rangeCount first (e .sequence)) || leb (2 ^ 31) (e .sequence)
+
+abbrev pub pairAnswer : Option Pair → Answer
+pairAnswer none = absent
+pairAnswer (some e) = pair (e .sequence) (e .value) 0
+
+-- "some live pair at a position of first..last": the first of them by position from first's, round the capacity
+unfoldable pub strangerIn : ℕ → Table → ℕ → ℕ → Answer
+strangerIn size t first last =
+    let start = position size first in
+    let q = firstRound (λ (r : ℕ). covers (capacity size) start (rangeCount first last) r && isStranger first (rangeCount first last) (t r)) (capacity size) start in
+    cond (ltb q (capacity size)) (pairAnswer (t q)) absent
+
 -- ---- refusals that are decided before the window is looked at; 0 for none
 
+-- what they may look at besides the arguments
+pub record Known : Type 0 where
+  pub size : ℕ
+
+abbrev pub known : ℕ → Known
+known size = record { size = size }
+
+-- k, unless it is taken; then what comes after it
 abbrev pub first : ℕ → Bool → ℕ → ℕ
 first k taken rest = cond taken rest k
 
--- a return list of fewer than 384 places is refused 6; "remove_range, stranger: then 5 for a count above window_size";
--- "release_retired, clear_bounded: then 8 for a number above 256". (Insert's 4 is decided by the window.)
-abbrev pub argumentRefusal : ℕ → Call → ℕ
-argumentRefusal size (insert s v listed) = first 6 listed 0
-argumentRefusal size (get s) = 0
-argumentRefusal size (exchange s v) = 0
-argumentRefusal size (remove s) = 0
-argumentRefusal size (successor-after s) = 0
-argumentRefusal size (first-from s) = 0
-argumentRefusal size (remove-range a b listed) = first 6 listed (first 5 (leb (rangeCount a b) size) 0)
-argumentRefusal size (clear listed) = first 6 listed 0
-argumentRefusal size (clear-bounded n listed) = first 6 listed (first 8 (leb n 256) 0)
-argumentRefusal size (release-retired b listed) = first 6 listed (first 8 (leb b 256) 0)
-argumentRefusal size (iter cell) = 0
-argumentRefusal size (stranger a b) = first 5 (leb (rangeCount a b) size) 0
-argumentRefusal size check = 0
+-- "remove_range, stranger: then 5 for a count above window_size"; "release_retired, clear_bounded: then 8 for a number above 256".
+-- (Insert's 4 is decided by the window.)
+abbrev pub refusedFor : Known → Arguments → ℕ
+refusedFor k no-argument = 0
+refusedFor k (sequence-argument s) = 0
+refusedFor k (range-argument a b) = first 5 (leb (rangeCount a b) (k .size)) 0
+refusedFor k (number-argument n) = first 8 (leb n 256) 0
+
+-- "a return list of at least 384"
+abbrev pub hasPlaces : Option Bool → Bool
+hasPlaces none = true
+hasPlaces (some listed) = listed
+
+-- "All others: first 6, .. a list shorter than named", then the arguments
+abbrev pub argumentRefusal : Known → Call → ℕ
+argumentRefusal k c = first 6 (hasPlaces (roleOf c .listed)) (refusedFor k (roleOf c .arguments))
 
 -- ---- the calls
 
+-- "State: at each position nothing (as when fresh) or one (sequence, value)."
+pub record TableState : Type 0 where
+  pub pairs : Table
+
+abbrev pub freshTable : TableState
+freshTable = record { pairs = fresh }
+
+-- other pairs, and the rest as it is
+abbrev pub withPairs : TableState → Table → TableState
+withPairs t p = record { pairs = p }
+
+-- what is at a sequence's position; the table with something else there
+abbrev pub here : ℕ → TableState → ℕ → Option Pair
+here size t s = t .pairs (position size s)
+
+abbrev pub put : ℕ → TableState → ℕ → Option Pair → TableState
+put size t s o = withPairs t (at (t .pairs) (position size s) o)
+
 -- the table after a call; the call's answer, none if it is not in the table
 pub record Outcome : Type 0 where
-  pub after : Table
+  pub after : TableState
   pub answer : Option Answer
 
-abbrev pub outcome : Table → Answer → Outcome
+abbrev pub outcome : TableState → Answer → Outcome
 outcome t a = record { after = t; answer = some a }
 
--- "Not in the table ..: what release_retired answers, the number clear_bounded released, .. which pair stranger gives"
-abbrev pub untold : Table → Outcome
+-- "Not in the table ..: what release_retired answers, the number clear_bounded released, .. iteration order"
+abbrev pub untold : TableState → Outcome
 untold t = record { after = t; answer = none }
 
 -- "It refuses for arguments as 'Refusal by operation' says, with no step": k is the number, 0 for none
-abbrev pub unlessRefused : ℕ → Table → Outcome → Outcome
+abbrev pub unlessRefused : ℕ → TableState → Outcome → Outcome
 unlessRefused zero t o = o
 unlessRefused (suc k) t o = outcome t (refused (suc k))
 
--- what a call does that is not refused for its arguments
-unfoldable pub tableDoes : ℕ → Table → Call → Outcome
-tableDoes size t (insert s v listed) = outcome (at t (position size s) (putAt s v (t (position size s)))) (putAnswer s (t (position size s)))
-tableDoes size t (get s) = outcome t (valueIf s (t (position size s)))
-tableDoes size t (exchange s v) = outcome (at t (position size s) (exchangeAt s v (t (position size s)))) (valueIf s (t (position size s)))
-tableDoes size t (remove s) = outcome (at t (position size s) (removeAt s (t (position size s)))) (valueIf s (t (position size s)))
+-- what a query is answered; none if that is not in the table
+abbrev pub tableAnswer : ℕ → TableState → Query → Option Answer
+tableAnswer size t (get s) = some (valueIf s (here size t s))
 -- "successor_after looks from the next position round to its own, last of all"
-tableDoes size t (successor-after s) = outcome t (searchFrom (capacity size) t (position size (s + 1)))
+tableAnswer size t (successor-after s) = some (searchFrom (capacity size) (t .pairs) (position size (s + 1)))
 -- "first_from begins at the sequence's own position"
-tableDoes size t (first-from s) = outcome t (searchFrom (capacity size) t (position size s))
-tableDoes size t (remove-range a b listed) =
-    outcome (emptyRange (capacity size) (position size a) (rangeCount a b) t) (found (heldInRange (capacity size) (position size a) (rangeCount a b) t))
--- "clear, clear_bounded: empty all"
-tableDoes size t (clear listed) = outcome fresh done
-tableDoes size t (clear-bounded n listed) = untold fresh
--- "release_retired, iter, stranger, check: no step"
-tableDoes size t (release-retired b listed) = untold t
-tableDoes size t (iter cell) = untold t
-tableDoes size t (stranger a b) = untold t
-tableDoes size t check = untold t
+tableAnswer size t (first-from s) = some (searchFrom (capacity size) (t .pairs) (position size s))
+tableAnswer size t (iter cell) = none
+tableAnswer size t (stranger a b) = some (strangerIn size (t .pairs) a b)
+-- "Every call keeps a sound state sound", so a head's check never gives 7
+tableAnswer size t check = some done
 
-abbrev pub tableStep : ℕ → Table → Call → Outcome
-tableStep size t c = unlessRefused (argumentRefusal size c) t (tableDoes size t c)
+-- what a call does that is not refused for its arguments
+unfoldable pub tableDoes : ℕ → TableState → Call → Outcome
+tableDoes size t (insert s v listed) = outcome (put size t s (putAt s v (here size t s))) (putAnswer s (here size t s))
+tableDoes size t (exchange s v) = outcome (put size t s (exchangeAt s v (here size t s))) (valueIf s (here size t s))
+tableDoes size t (remove s) = outcome (put size t s (removeAt s (here size t s))) (valueIf s (here size t s))
+tableDoes size t (remove-range a b listed) =
+    let cap = capacity size in
+    outcome (withPairs t (emptyRange cap (position size a) (rangeCount a b) (t .pairs)))
+    (found (heldInRange cap (position size a) (rangeCount a b) (t .pairs)))
+-- "clear, clear_bounded: empty all"
+tableDoes size t (clear listed) = outcome (withPairs t fresh) done
+tableDoes size t (clear-bounded n listed) = untold (withPairs t fresh)
+-- "release_retired, iter, stranger, check: no step", nor get, successor_after, first_from
+tableDoes size t (release-retired b listed) = untold t
+tableDoes size t (ask q) = record { after = t; answer = tableAnswer size t q }
+
+abbrev pub tableStep : ℕ → TableState → Call → Outcome
+tableStep size t c = unlessRefused (argumentRefusal (known size) c) t (tableDoes size t c)
