@@ -1,2 +1,3 @@
 -- Laws over plain variables that the proofs cite.
 pub mod Reaching
+pub mod Refusing

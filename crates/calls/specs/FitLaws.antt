@@ -1,32 +1,11 @@
--- Refusal 6, and what a call knows once it does not apply: the bounds of the header and of the lists (`fits-is` of the window's
--- laws), where a position's page lies in the lists, and positions. Assumes nothing.
+-- Where a position's page lies in the lists, and positions. Assumes nothing.
 use mathlib.Core.Path.{_≡_, sym, ap, _∙_}
-use mathlib.Core.Bool.{Bool, true, false, not}
 use Prim.Native.Nat.{ℕ, _+_, _-_, _*_, _/_, _%_, _^_, _≤_, _<_}
 use native.Mathlib.Omega.{arith}
 use native.Mathlib.Nat.{sub-add-cancel, mod-add-mod}
 use lib.Pow.{mod-mod-pow}
-use borrow.Author.Tests.{not-false}
-use Rattle.window.specs.declared.AdaptiveReceiverPacketWindow.{AdaptiveReceiverPacketWindow}
 use Rattle.window.specs.Memory.{capacity, pageCount, blockCount, position}
 use Rattle.window.specs.MemoryLaws.{capacity-power, capacity-pages, page-count-le, position-lt}
-use Rattle.window.specs.Refusals.{fits}
-use Rattle.window.specs.RefusalLaws.{Fits, fits-is}
-use Rattle.model.specs.Calls.{Call}
-use Rattle.model.specs.Contract.{State, lengthsFit, refusal}
-use Rattle.model.specs.Table.{argumentRefusal}
-
--- ---- the refusal
-
-pub short-refusal : (u : State) (c : Call) → lengthsFit u ≡ false → refusal u c ≡ 6
-short-refusal u c e = rw e
-
-pub fit-refusal : (u : State) (c : Call) → lengthsFit u ≡ true → refusal u c ≡ argumentRefusal (u .header .«window_size») c
-fit-refusal u c e = rw e
-
--- what the header and the lists are like where the code's test b held
-pub fit : (w : AdaptiveReceiverPacketWindow) (s v p k : ℕ) (b : Bool) → b ≡ fits w s v p k → not b ≡ false → Fits w s v p k
-fit w s v p k b test t = fits-is w s v p k (sym test ∙ not-false b t)
 
 -- ---- pages
 

@@ -1,4 +1,7 @@
-// What the calls share: an outcome with nothing returned, whether a page's values are reachable, and the count of a range.
+// What the calls share: an outcome with nothing returned, whether a page's values are reachable, and the count of a range; admits.rt
+// has the refusals.
+pub mod admits;
+
 use masks::marks::page_retired;
 use pages::find::Read;
 use window::AdaptiveReceiverPacketWindow;

@@ -12,7 +12,7 @@ use Rattle.window.specs.declared.answers.Step.{Step}
 use Rattle.window.specs.declared.refusals.Refusal.the-variants.{Unsound}
 use Rattle.window.specs.Memory.{memory}
 use Rattle.window.specs.Refusals.{fits}
-use Rattle.window.specs.RefusalLaws.{Within}
+use Rattle.window.specs.Refusals.{Within}
 use Rattle.model.specs.Calls as model
 use Rattle.model.specs.Calls.{check}
 use Rattle.model.specs.Contract.{Meets, windowOf}
@@ -65,17 +65,17 @@ module _ (w : AdaptiveReceiverPacketWindow) (ss vs pages blocks : List ℕ)
   unfolding windowDoes
   step v = refl
 
-  answered : (a : Answer) → r ≡ replied w a → (Sound (windowOf (stateOf w ss vs pages blocks)) → model.done ≡ answerOf a)
-      → ((Sound (windowOf (stateOf w ss vs pages blocks)) → ⊥) → answerOf a ≡ model.refused 7)
-      → Meets check (stateOf w ss vs pages blocks) [] (leftOf r ss vs pages blocks [])
+  answered : (a : Answer) → r ≡ replied w a → (Sound (windowOf (stateOf w (memory ss vs pages blocks))) → model.done ≡ answerOf a)
+      → ((Sound (windowOf (stateOf w (memory ss vs pages blocks))) → ⊥) → answerOf a ≡ model.refused 7)
+      → Meets check (stateOf w (memory ss vs pages blocks)) [] (leftOf r (memory ss vs pages blocks) [])
   answered a e sound unsound =
-      let u = stateOf w ss vs pages blocks in
-      subst (λ (x : Step). Meets check u [] (leftOf x ss vs pages blocks [])) (sym e)
+      let u = stateOf w (memory ss vs pages blocks) in
+      subst (λ (x : Step). Meets check u [] (leftOf x (memory ss vs pages blocks) [])) (sym e)
       (read-meets check u (answerOf a) (λ q n. unsound n) (fit-refusal u check (sym test ∙ not-false b fit))
       (λ ok. step (windowOf u) ∙ ap (λ (x : model.Answer). effect (windowOf u) x []) (sound ok)))
 
-  pub sound-answer : not d ≡ false → r ≡ replied w Done → Meets check (stateOf w ss vs pages blocks) [] (leftOf r ss vs pages blocks [])
+  pub sound-answer : not d ≡ false → r ≡ replied w Done → Meets check (stateOf w (memory ss vs pages blocks)) [] (leftOf r (memory ss vs pages blocks) [])
   sound-answer t e = answered Done e (λ ok. refl) (λ n. absurd (n (decided .is vs .holds (not-false d t))))
 
-  pub unsound-answer : not d ≡ true → r ≡ refusedBy w Unsound → Meets check (stateOf w ss vs pages blocks) [] (leftOf r ss vs pages blocks [])
+  pub unsound-answer : not d ≡ true → r ≡ refusedBy w Unsound → Meets check (stateOf w (memory ss vs pages blocks)) [] (leftOf r (memory ss vs pages blocks) [])
   unsound-answer t e = answered (Refused Unsound) e (λ ok. absurd (decided .is vs .fails (not-true d t) ok)) (λ n. refl)

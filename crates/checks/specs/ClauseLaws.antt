@@ -11,7 +11,7 @@ use Rattle.words.specs.BitLaws.{bit-none, bit-past, bit-mod, ext-bits}
 use Rattle.window.specs.declared.AdaptiveReceiverPacketWindow.{AdaptiveReceiverPacketWindow}
 use Rattle.window.specs.Memory.{Memory, pageCount, blockCount}
 use Rattle.window.specs.MemoryLaws.{block-count-le}
-use Rattle.window.specs.RefusalLaws.{Within}
+use Rattle.window.specs.Refusals.{Within}
 use Rattle.model.specs.Window.{Window, Block, decode, noBlock, pagesOf, blocksOf}
 use Rattle.model.specs.Sound.{Sound}
 use Rattle.soundness.specs.PageLaws.{no-marks}

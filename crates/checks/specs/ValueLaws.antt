@@ -23,7 +23,7 @@ use Rattle.masks.specs.BlockLaws.{block-at}
 use Rattle.masks.specs.MarkLaws.{page-retired-is}
 use Rattle.soundness.specs.SumLaws.{sum-zero, sum-suc, sum-same, sum-le, sum-past}
 use Rattle.soundness.specs.PageLaws.{empty-counts}
-use Rattle.soundness.specs.PointLaws.{decode-past}
+use Rattle.soundness.specs.ProperLaws.{decode-past}
 use Rattle.calls.proofs.Reaching.{retired-lt}
 use Rattle.checks.specs.Clauses.{pagesInBlock, valuesAt, valuesWhere}
 

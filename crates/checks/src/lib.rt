@@ -19,8 +19,8 @@ use window::refusals::fits;
 ghost use mathlib.Core.List.{[]};
 ghost use Prim.Native.Nat.{_≤_};
 ghost use lib.ListN.{length};
-ghost use Rattle.window.specs.Memory.{capacity};
-ghost use Rattle.window.specs.RefusalLaws.{Within};
+ghost use Rattle.window.specs.Memory.{memory, capacity};
+ghost use Rattle.window.specs.Refusals.{Within};
 ghost use Rattle.model.specs.Calls.{check as checkOf};
 ghost use Rattle.model.specs.Contract.{Meets};
 ghost use Rattle.calls.specs.Answers.{stateOf, leftOf};
@@ -49,8 +49,8 @@ pub fn check(
     pages: &[u64],
     blocks: &[u64],
 ) -> Step
-    ensures { λ r. ⌜ Meets checkOf (stateOf w (now (sequences .entry)) (now (values .entry)) (now (pages .entry)) (now (blocks .entry))) []
-        (leftOf r (now (sequences .entry)) (now (values .entry)) (now (pages .entry)) (now (blocks .entry)) []) ⌝ }
+    ensures { λ r. ⌜ Meets checkOf (stateOf w (memory (now (sequences .entry)) (now (values .entry)) (now (pages .entry)) (now (blocks .entry)))) []
+        (leftOf r (memory (now (sequences .entry)) (now (values .entry)) (now (pages .entry)) (now (blocks .entry))) []) ⌝ }
 {
     if !fits(w, sequences.len(), values.len(), pages.len(), blocks.len()) {
         return refuse(w, Refusal::ShortMemory);

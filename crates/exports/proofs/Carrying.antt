@@ -8,7 +8,7 @@ use Rattle.window.specs.declared.AdaptiveReceiverPacketWindow.{AdaptiveReceiver
 use Rattle.window.specs.declared.Created.{Created}
 use Rattle.window.specs.declared.answers.Answer.{Answer}
 use Rattle.window.specs.declared.answers.Step.{Step}
-use Rattle.window.specs.Memory.{Memory}
+use Rattle.window.specs.Memory.{memory, Memory}
 use Rattle.window.specs.New.{fresh, newResult, newOf}
 use Rattle.window.specs.New as window
 use Rattle.model.specs.Calls.{Call}
@@ -19,10 +19,10 @@ use Rattle.exports.specs.declared.NumberedStep.{NumberedStep}
 use Rattle.exports.specs.Numbers.{answerFrom, numbersLeft, Same, newFrom, Made, Creates}
 
 pub in-numbers : (c : Call) (u : State) (l : List ℕ) (s : Step) (r : NumberedStep) (ss vs pages blocks l′ : List ℕ) → Same s r
-    → Meets c u l (leftOf s ss vs pages blocks l′) → Meets c u l (numbersLeft r ss vs pages blocks l′)
+    → Meets c u l (leftOf s (memory ss vs pages blocks) l′) → Meets c u l (numbersLeft r (memory ss vs pages blocks) l′)
 in-numbers c u l s r ss vs pages blocks l′ t =
     subst (Meets c u l)
-    (λ i. record { answer = sym (t .answer) i; count = sym (t .count) i; state = stateOf (sym (t .window) i) ss vs pages blocks; list = l′ })
+    (λ i. record { answer = sym (t .answer) i; count = sym (t .count) i; state = stateOf (sym (t .window) i) (memory ss vs pages blocks); list = l′ })
 
 pub told-as : (r q : NumberedAnswer) (a b : Answer) → r ≡ q → a ≡ b → answerFrom q ≡ answerOf b → answerFrom r ≡ answerOf a
 told-as r q a b e f g = ap answerFrom e ∙ g ∙ sym (ap answerOf f)

@@ -157,8 +157,8 @@ pub extern "C" fn packet_window_get(
     blocks: &[u64],
     sequence: u32,
 ) -> NumberedStep
-    ensures { λ r. ⌜ Meets (getOf sequence) (stateOf w (now (sequences .entry)) (now (values .entry)) (now (pages .entry)) (now (blocks .entry))) []
-        (numbersLeft r (now (sequences .entry)) (now (values .entry)) (now (pages .entry)) (now (blocks .entry)) []) ⌝ }
+    ensures { λ r. ⌜ Meets (getOf sequence) (stateOf w (memory (now (sequences .entry)) (now (values .entry)) (now (pages .entry)) (now (blocks .entry)))) []
+        (numbersLeft r (memory (now (sequences .entry)) (now (values .entry)) (now (pages .entry)) (now (blocks .entry))) []) ⌝ }
 {
     in_numbers(get(w, sequences, values, pages, blocks, sequence))
 }
@@ -172,8 +172,8 @@ pub extern "C" fn packet_window_successor_after(
     blocks: &[u64],
     sequence: u32,
 ) -> NumberedStep
-    ensures { λ r. ⌜ Meets (successor-after sequence) (stateOf w (now (sequences .entry)) (now (values .entry)) (now (pages .entry)) (now (blocks .entry))) []
-        (numbersLeft r (now (sequences .entry)) (now (values .entry)) (now (pages .entry)) (now (blocks .entry)) []) ⌝ }
+    ensures { λ r. ⌜ Meets (successor-after sequence) (stateOf w (memory (now (sequences .entry)) (now (values .entry)) (now (pages .entry)) (now (blocks .entry)))) []
+        (numbersLeft r (memory (now (sequences .entry)) (now (values .entry)) (now (pages .entry)) (now (blocks .entry))) []) ⌝ }
 {
     in_numbers(successor_after(w, sequences, values, pages, blocks, sequence))
 }
@@ -187,8 +187,8 @@ pub extern "C" fn packet_window_first_from(
     blocks: &[u64],
     sequence: u32,
 ) -> NumberedStep
-    ensures { λ r. ⌜ Meets (first-from sequence) (stateOf w (now (sequences .entry)) (now (values .entry)) (now (pages .entry)) (now (blocks .entry))) []
-        (numbersLeft r (now (sequences .entry)) (now (values .entry)) (now (pages .entry)) (now (blocks .entry)) []) ⌝ }
+    ensures { λ r. ⌜ Meets (first-from sequence) (stateOf w (memory (now (sequences .entry)) (now (values .entry)) (now (pages .entry)) (now (blocks .entry)))) []
+        (numbersLeft r (memory (now (sequences .entry)) (now (values .entry)) (now (pages .entry)) (now (blocks .entry))) []) ⌝ }
 {
     in_numbers(first_from(w, sequences, values, pages, blocks, sequence))
 }
@@ -202,8 +202,8 @@ pub extern "C" fn packet_window_iter(
     blocks: &[u64],
     cell: u32,
 ) -> NumberedStep
-    ensures { λ r. ⌜ Meets (iterOf cell) (stateOf w (now (sequences .entry)) (now (values .entry)) (now (pages .entry)) (now (blocks .entry))) []
-        (numbersLeft r (now (sequences .entry)) (now (values .entry)) (now (pages .entry)) (now (blocks .entry)) []) ⌝ }
+    ensures { λ r. ⌜ Meets (iterOf cell) (stateOf w (memory (now (sequences .entry)) (now (values .entry)) (now (pages .entry)) (now (blocks .entry)))) []
+        (numbersLeft r (memory (now (sequences .entry)) (now (values .entry)) (now (pages .entry)) (now (blocks .entry))) []) ⌝ }
 {
     in_numbers(iter(w, sequences, values, pages, blocks, cell))
 }
@@ -218,8 +218,8 @@ pub extern "C" fn packet_window_exchange(
     sequence: u32,
     value: u32,
 ) -> NumberedStep
-    ensures { λ r. ⌜ Meets (exchangeOf sequence value) (stateOf w (now (sequences .entry)) (now (values .entry)) (now (pages .entry)) (now (blocks .entry))) []
-        (numbersLeft r (now (sequences .entry)) (now (values .exit)) (now (pages .entry)) (now (blocks .entry)) []) ⌝ }
+    ensures { λ r. ⌜ Meets (exchangeOf sequence value) (stateOf w (memory (now (sequences .entry)) (now (values .entry)) (now (pages .entry)) (now (blocks .entry)))) []
+        (numbersLeft r (memory (now (sequences .entry)) (now (values .exit)) (now (pages .entry)) (now (blocks .entry))) []) ⌝ }
 {
     in_numbers(exchange(w, sequences, values, pages, blocks, sequence, value))
 }
@@ -233,8 +233,8 @@ pub extern "C" fn packet_window_remove(
     blocks: &mut [u64],
     sequence: u32,
 ) -> NumberedStep
-    ensures { λ r. ⌜ Meets (removeOf sequence) (stateOf w (now (sequences .entry)) (now (values .entry)) (now (pages .entry)) (now (blocks .entry))) []
-        (numbersLeft r (now (sequences .exit)) (now (values .exit)) (now (pages .exit)) (now (blocks .exit)) []) ⌝ }
+    ensures { λ r. ⌜ Meets (removeOf sequence) (stateOf w (memory (now (sequences .entry)) (now (values .entry)) (now (pages .entry)) (now (blocks .entry)))) []
+        (numbersLeft r (memory (now (sequences .exit)) (now (values .exit)) (now (pages .exit)) (now (blocks .exit))) []) ⌝ }
 {
     in_numbers(remove(w, sequences, values, pages, blocks, sequence))
 }
@@ -250,8 +250,8 @@ pub extern "C" fn packet_window_insert(
     sequence: u32,
     value: u32,
 ) -> NumberedStep
-    ensures { λ r. ⌜ Meets (insertOf sequence value (leb 384 (length (now (returned .entry))))) (stateOf w (now (sequences .entry)) (now (values .entry)) (now (pages .entry)) (now (blocks .entry))) (now (returned .entry))
-        (numbersLeft r (now (sequences .exit)) (now (values .exit)) (now (pages .exit)) (now (blocks .exit)) (now (returned .exit))) ⌝ }
+    ensures { λ r. ⌜ Meets (insertOf sequence value (leb 384 (length (now (returned .entry))))) (stateOf w (memory (now (sequences .entry)) (now (values .entry)) (now (pages .entry)) (now (blocks .entry)))) (now (returned .entry))
+        (numbersLeft r (memory (now (sequences .exit)) (now (values .exit)) (now (pages .exit)) (now (blocks .exit))) (now (returned .exit))) ⌝ }
 {
     in_numbers(insert(
         w,

@@ -5,6 +5,7 @@ use window::answers::Outcome;
 ghost use mathlib.Core.List.{[]};
 ghost use lib.Dec.{leb};
 ghost use lib.ListN.{length};
+ghost use Rattle.window.specs.Memory.{memory};
 ghost use Rattle.model.specs.Calls.{insert as insertOf, remove as removeOf, release-retired};
 ghost use Rattle.model.specs.Contract.{Meets};
 ghost use Rattle.calls.specs.Answers.{stateOf};
@@ -20,8 +21,8 @@ pub fn insert(
     sequence: u32,
     value: u32,
 ) -> Outcome
-    ensures { λ r. ⌜ Meets (insertOf sequence value (leb 384 (length (now (returned .entry))))) (stateOf (now (w .entry)) (now (sequences .entry)) (now (values .entry)) (now (pages .entry)) (now (blocks .entry))) (now (returned .entry))
-        (leftAt (now (w .exit)) r (now (sequences .exit)) (now (values .exit)) (now (pages .exit)) (now (blocks .exit)) (now (returned .exit))) ⌝ }
+    ensures { λ r. ⌜ Meets (insertOf sequence value (leb 384 (length (now (returned .entry))))) (stateOf (now (w .entry)) (memory (now (sequences .entry)) (now (values .entry)) (now (pages .entry)) (now (blocks .entry)))) (now (returned .entry))
+        (leftAt (now (w .exit)) r (memory (now (sequences .exit)) (now (values .exit)) (now (pages .exit)) (now (blocks .exit))) (now (returned .exit))) ⌝ }
 {
     let inserted = points::insert::insert(
         *w,
@@ -45,8 +46,8 @@ pub fn remove(
     blocks: &mut [u64],
     sequence: u32,
 ) -> Outcome
-    ensures { λ r. ⌜ Meets (removeOf sequence) (stateOf (now (w .entry)) (now (sequences .entry)) (now (values .entry)) (now (pages .entry)) (now (blocks .entry))) []
-        (leftAt (now (w .exit)) r (now (sequences .exit)) (now (values .exit)) (now (pages .exit)) (now (blocks .exit)) []) ⌝ }
+    ensures { λ r. ⌜ Meets (removeOf sequence) (stateOf (now (w .entry)) (memory (now (sequences .entry)) (now (values .entry)) (now (pages .entry)) (now (blocks .entry)))) []
+        (leftAt (now (w .exit)) r (memory (now (sequences .exit)) (now (values .exit)) (now (pages .exit)) (now (blocks .exit))) []) ⌝ }
 {
     let removed = points::remove::remove(*w, sequences, values, pages, blocks, sequence);
     *w = removed.window;
@@ -62,8 +63,8 @@ pub fn release_retired(
     returned: &mut [u32],
     budget: u32,
 ) -> Outcome
-    ensures { λ r. ⌜ Meets (release-retired budget (leb 384 (length (now (returned .entry))))) (stateOf (now (w .entry)) (now (sequences .entry)) (now (values .entry)) (now (pages .entry)) (now (blocks .entry))) (now (returned .entry))
-        (leftAt (now (w .exit)) r (now (sequences .entry)) (now (values .entry)) (now (pages .exit)) (now (blocks .exit)) (now (returned .exit))) ⌝ }
+    ensures { λ r. ⌜ Meets (release-retired budget (leb 384 (length (now (returned .entry))))) (stateOf (now (w .entry)) (memory (now (sequences .entry)) (now (values .entry)) (now (pages .entry)) (now (blocks .entry)))) (now (returned .entry))
+        (leftAt (now (w .exit)) r (memory (now (sequences .entry)) (now (values .entry)) (now (pages .exit)) (now (blocks .exit))) (now (returned .exit))) ⌝ }
 {
     let released = range_calls::release_retired::release_retired(
         *w,

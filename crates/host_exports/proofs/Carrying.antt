@@ -2,6 +2,7 @@
 use mathlib.Core.Path.{sym, subst}
 use mathlib.Core.List.{List}
 use Prim.Native.Nat.{ℕ}
+use Rattle.window.specs.Memory.{memory}
 use Rattle.window.specs.declared.AdaptiveReceiverPacketWindow.{AdaptiveReceiverPacketWindow}
 use Rattle.window.specs.declared.answers.Outcome.{Outcome}
 use Rattle.model.specs.Calls.{Call}
@@ -13,6 +14,6 @@ use Rattle.host_exports.specs.Outcomes.{leftIn, SameOutcome}
 
 pub outcome-in-numbers : (c : Call) (u : State) (l : List ℕ) (w : AdaptiveReceiverPacketWindow) (o : Outcome) (r : NumberedOutcome)
     (ss vs pages blocks l′ : List ℕ) → SameOutcome o r
-    → Meets c u l (leftAt w o ss vs pages blocks l′) → Meets c u l (leftIn w r ss vs pages blocks l′)
+    → Meets c u l (leftAt w o (memory ss vs pages blocks) l′) → Meets c u l (leftIn w r (memory ss vs pages blocks) l′)
 outcome-in-numbers c u l w o r ss vs pages blocks l′ t =
-    subst (Meets c u l) (λ i. record { answer = sym (t .answer) i; count = sym (t .count) i; state = stateOf w ss vs pages blocks; list = l′ })
+    subst (Meets c u l) (λ i. record { answer = sym (t .answer) i; count = sym (t .count) i; state = stateOf w (memory ss vs pages blocks); list = l′ })

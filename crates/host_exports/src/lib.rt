@@ -7,6 +7,7 @@ use window::answers::Outcome;
 ghost use mathlib.Core.List.{[]};
 ghost use lib.Dec.{leb};
 ghost use lib.ListN.{length};
+ghost use Rattle.window.specs.Memory.{memory};
 ghost use Rattle.model.specs.Calls.{insert as insertOf, remove as removeOf, release-retired};
 ghost use Rattle.model.specs.Contract.{Meets};
 ghost use Rattle.calls.specs.Answers.{stateOf};
@@ -40,8 +41,8 @@ pub extern "C" fn packet_window_host_insert(
     sequence: u32,
     value: u32,
 ) -> NumberedOutcome
-    ensures { λ r. ⌜ Meets (insertOf sequence value (leb 384 (length (now (returned .entry))))) (stateOf (now (w .entry)) (now (sequences .entry)) (now (values .entry)) (now (pages .entry)) (now (blocks .entry))) (now (returned .entry))
-        (leftIn (now (w .exit)) r (now (sequences .exit)) (now (values .exit)) (now (pages .exit)) (now (blocks .exit)) (now (returned .exit))) ⌝ }
+    ensures { λ r. ⌜ Meets (insertOf sequence value (leb 384 (length (now (returned .entry))))) (stateOf (now (w .entry)) (memory (now (sequences .entry)) (now (values .entry)) (now (pages .entry)) (now (blocks .entry)))) (now (returned .entry))
+        (leftIn (now (w .exit)) r (memory (now (sequences .exit)) (now (values .exit)) (now (pages .exit)) (now (blocks .exit))) (now (returned .exit))) ⌝ }
 {
     outcome_in_numbers(host::insert(
         w,
@@ -64,8 +65,8 @@ pub extern "C" fn packet_window_host_remove(
     blocks: &mut [u64],
     sequence: u32,
 ) -> NumberedOutcome
-    ensures { λ r. ⌜ Meets (removeOf sequence) (stateOf (now (w .entry)) (now (sequences .entry)) (now (values .entry)) (now (pages .entry)) (now (blocks .entry))) []
-        (leftIn (now (w .exit)) r (now (sequences .exit)) (now (values .exit)) (now (pages .exit)) (now (blocks .exit)) []) ⌝ }
+    ensures { λ r. ⌜ Meets (removeOf sequence) (stateOf (now (w .entry)) (memory (now (sequences .entry)) (now (values .entry)) (now (pages .entry)) (now (blocks .entry)))) []
+        (leftIn (now (w .exit)) r (memory (now (sequences .exit)) (now (values .exit)) (now (pages .exit)) (now (blocks .exit))) []) ⌝ }
 {
     outcome_in_numbers(host::remove(w, sequences, values, pages, blocks, sequence))
 }
@@ -80,8 +81,8 @@ pub extern "C" fn packet_window_host_release_retired(
     returned: &mut [u32],
     budget: u32,
 ) -> NumberedOutcome
-    ensures { λ r. ⌜ Meets (release-retired budget (leb 384 (length (now (returned .entry))))) (stateOf (now (w .entry)) (now (sequences .entry)) (now (values .entry)) (now (pages .entry)) (now (blocks .entry))) (now (returned .entry))
-        (leftIn (now (w .exit)) r (now (sequences .entry)) (now (values .entry)) (now (pages .exit)) (now (blocks .exit)) (now (returned .exit))) ⌝ }
+    ensures { λ r. ⌜ Meets (release-retired budget (leb 384 (length (now (returned .entry))))) (stateOf (now (w .entry)) (memory (now (sequences .entry)) (now (values .entry)) (now (pages .entry)) (now (blocks .entry)))) (now (returned .entry))
+        (leftIn (now (w .exit)) r (memory (now (sequences .entry)) (now (values .entry)) (now (pages .exit)) (now (blocks .exit))) (now (returned .exit))) ⌝ }
 {
     outcome_in_numbers(host::release_retired(w, sequences, values, pages, blocks, returned, budget))
 }

@@ -18,7 +18,8 @@ use Rattle.window.specs.declared.AdaptiveReceiverPacketWindow.{AdaptiveReceiver
 use Rattle.window.specs.Memory.{Memory, capacity, pageCount, blockCount, zeroed}
 use Rattle.window.specs.MemoryLaws.{page-count-ge}
 use Rattle.window.specs.Refusals.{limits, longEnough}
-use Rattle.window.specs.RefusalLaws.{Within, LongEnough, limits-within, long-enough-is, is-fit}
+use Rattle.window.specs.Refusals.{Within, LongEnough}
+use Rattle.window.specs.RefusalLaws.{limits-within, long-enough-is, is-fit}
 use Rattle.window.specs.New.{fresh, cleared, made, refused, newResult, NewResult, unlessRefused, shortMemory, newOf}
 use Rattle.model.specs.Calls.{done}
 use Rattle.model.specs.Window.{Window, noBlock, cellsAt, decode, freshWindow, standsAt, cellOf, isRetired, liveAt, retiredAt, inUse, isReached, iterStep, pairsFrom, livePairs, unreached, retiredValues, capacityOf}

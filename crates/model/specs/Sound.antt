@@ -4,7 +4,7 @@ use mathlib.Core.Bool.{true, false, cond, not}
 use Prim.Native.Nat.{ℕ, _+_, _*_, _/_, _%_, _^_, _≤_, _<_}
 use lib.Dec.{eqb}
 use Rattle.words.specs.Word.{bitAt}
-use Rattle.window.specs.RefusalLaws.{Within}
+use Rattle.window.specs.Refusals.{Within}
 use Rattle.model.specs.Table.{sum}
 use Rattle.model.specs.Demand3.{one}
 use Rattle.model.specs.Window.{Page, Window, capacityOf, pagesOf, blocksOf, isRetired}

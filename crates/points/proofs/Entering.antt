@@ -13,8 +13,8 @@ use Rattle.window.specs.declared.answers.Answer.{Answer}
 use Rattle.window.specs.declared.answers.Answer.the-variants.{Refused}
 use Rattle.window.specs.declared.answers.Step.{Step}
 use Rattle.window.specs.declared.refusals.Refusal.the-variants.{Unsound}
-use Rattle.window.specs.Memory.{position}
-use Rattle.window.specs.RefusalLaws.{Fits}
+use Rattle.window.specs.Memory.{memory, position}
+use Rattle.window.specs.Refusals.{Fits}
 use Rattle.model.specs.Calls.{insert}
 use Rattle.releases.specs.declared.PageReleased.{PageReleased}
 use Rattle.calls.specs.Answers.{stateOf, leftOf}
@@ -48,7 +48,7 @@ module _ (h : AdaptiveReceiverPacketWindow) (ss vs pages blocks l : List ℕ) (s
 
   -- the words of the page that was revived do not fit each other
   pub unsound-writes : r .sound ≡ false
-      → Writes (insert s v (leb 384 (length l))) (stateOf h ss vs pages blocks) l (leftOf (stepOf (r .window) (Refused Unsound) (r .count)) ss vs pages₁ blocks₁ l₁)
+      → Writes (insert s v (leb 384 (length l))) (stateOf h (memory ss vs pages blocks)) l (leftOf (stepOf (r .window) (Refused Unsound) (r .count)) (memory ss vs pages₁ blocks₁) l₁)
   unsound-writes q =
       elim (ℕ-discrete k 0) [
         | yes z ↦
@@ -68,16 +68,16 @@ module _ (h : AdaptiveReceiverPacketWindow) (ss vs pages blocks l : List ℕ) (s
         (subst (λ (x : PageReleased). InsertsLive (x .window) ss vs pages₁ blocks₁ (p / 64) (h .n) s v q ss′ vs′ pages′ blocks′) (u .0) i))
 
     in-live : (k ≡ 0 → ⊥)
-        → Writes (insert s v (leb 384 (length l))) (stateOf h ss vs pages blocks) l (leftOf (stepOf (q .window) a (r .count)) ss′ vs′ pages′ blocks′ l₁)
+        → Writes (insert s v (leb 384 (length l))) (stateOf h (memory ss vs pages blocks)) l (leftOf (stepOf (q .window) a (r .count)) (memory ss′ vs′ pages′ blocks′) l₁)
     in-live n =
         let u = m .live n in
         let t = was-live n in
-        subst (λ (x : List ℕ). Writes (insert s v (leb 384 (length l))) (stateOf h ss vs pages blocks) l (leftOf (stepOf (q .window) a (r .count)) ss′ vs′ pages′ blocks′ x)) (sym (u .3))
-        (subst (λ (x : ℕ). Writes (insert s v (leb 384 (length l))) (stateOf h ss vs pages blocks) l (leftOf (stepOf (q .window) a x) ss′ vs′ pages′ blocks′ l)) (sym (ap (λ (x : PageReleased). x .count) (u .0)))
-        (subst (λ (x : Answer). Writes (insert s v (leb 384 (length l))) (stateOf h ss vs pages blocks) l (leftOf (stepOf (q .window) x 0) ss′ vs′ pages′ blocks′ l)) (sym (b .live n))
+        subst (λ (x : List ℕ). Writes (insert s v (leb 384 (length l))) (stateOf h (memory ss vs pages blocks)) l (leftOf (stepOf (q .window) a (r .count)) (memory ss′ vs′ pages′ blocks′) x)) (sym (u .3))
+        (subst (λ (x : ℕ). Writes (insert s v (leb 384 (length l))) (stateOf h (memory ss vs pages blocks)) l (leftOf (stepOf (q .window) a x) (memory ss′ vs′ pages′ blocks′) l)) (sym (ap (λ (x : PageReleased). x .count) (u .0)))
+        (subst (λ (x : Answer). Writes (insert s v (leb 384 (length l))) (stateOf h (memory ss vs pages blocks)) l (leftOf (stepOf (q .window) x 0) (memory ss′ vs′ pages′ blocks′) l)) (sym (b .live n))
         (live-writes h ss vs pages blocks l s v p k e reach fit long ss′ vs′ pages′ blocks′ (t .within) (t .sequences) (t .values) q n t)))
 
-    pub entered-writes : Writes (insert s v (leb 384 (length l))) (stateOf h ss vs pages blocks) l (leftOf (stepOf (q .window) a (r .count)) ss′ vs′ pages′ blocks′ l₁)
+    pub entered-writes : Writes (insert s v (leb 384 (length l))) (stateOf h (memory ss vs pages blocks)) l (leftOf (stepOf (q .window) a (r .count)) (memory ss′ vs′ pages′ blocks′) l₁)
     entered-writes =
         elim (ℕ-discrete k 0) [
           | yes z ↦

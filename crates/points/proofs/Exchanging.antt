@@ -120,7 +120,7 @@ module _ (h : AdaptiveReceiverPacketWindow) (ss vs pages blocks : List ℕ) (s p
           ∙ sym (exchanged-page ok n)
 
       pub exchange-writes : (a : Answer) → answerOf a ≡ readAnswer x
-          → Writes (exchange s v) (stateOf h ss vs pages blocks) [] (leftOf (replied h a) ss (withPart (p / 64) vs ys) pages blocks [])
+          → Writes (exchange s v) (stateOf h (memory ss vs pages blocks)) [] (leftOf (replied h a) (memory ss (withPart (p / 64) vs ys) pages blocks) [])
       unfolding windowDoes exchangeStep
       exchange-writes a is = record {
         sound = λ ok. record { answer = is ∙ answers ok; window = alters ok; returned = refl; count = refl };

@@ -10,7 +10,7 @@ use borrow.Author.Tests.{le-leb}
 use Rattle.window.specs.declared.AdaptiveReceiverPacketWindow.{AdaptiveReceiverPacketWindow}
 use Rattle.window.specs.declared.answers.Step.{Step}
 use Rattle.window.specs.Memory.{memory, position, capacity, pageCount, blockCount}
-use Rattle.window.specs.RefusalLaws.{Fits}
+use Rattle.window.specs.Refusals.{Fits}
 use Rattle.model.specs.Calls.{insert}
 use Rattle.model.specs.Window.{Window, decode, isRetired}
 use Rattle.model.specs.Pages.{insertPage}
@@ -84,7 +84,7 @@ module _ (h : AdaptiveReceiverPacketWindow) (ss vs pages blocks l : List ℕ) (s
       retired : Sound (decode h (memory ss vs pages blocks)) → isRetired (decode h (memory ss vs pages blocks)) (p / 64) ≡ true
       retired ok = unreachable h (memory ss vs pages blocks) ok g under k reach z
 
-      retired-fills : Fills (λ (w : Window). windowStep w (insert s v (leb 384 (length l)))) (stateOf h ss vs pages blocks) l (leftOf r ss′ vs′ pages′ blocks′ l′)
+      retired-fills : Fills (λ (w : Window). windowStep w (insert s v (leb 384 (length l)))) (stateOf h (memory ss vs pages blocks)) l (leftOf r (memory ss′ vs′ pages′ blocks′) l′)
       retired-fills = record {
         wrote = t .wrote;
         few = omega (arith, t .few);
@@ -94,10 +94,10 @@ module _ (h : AdaptiveReceiverPacketWindow) (ss vs pages blocks l : List ℕ) (s
         gives = λ ok. (λ i. effect (t .gives (placing ok) (retired ok) i) (t .answer (placing ok) (retired ok) i) (t .out (placing ok) (retired ok) i)) ∙ sym step-is;
       }
 
-      pub retired-writes : Writes (insert s v (leb 384 (length l))) (stateOf h ss vs pages blocks) l (leftOf r ss′ vs′ pages′ blocks′ l′)
+      pub retired-writes : Writes (insert s v (leb 384 (length l))) (stateOf h (memory ss vs pages blocks)) l (leftOf r (memory ss′ vs′ pages′ blocks′) l′)
       retired-writes =
-          fills-writes (λ (w : Window). windowStep w (insert s v (leb 384 (length l)))) (insert s v (leb 384 (length l))) (stateOf h ss vs pages blocks) l
-          (leftOf r ss′ vs′ pages′ blocks′ l′) long refl retired-fills
+          fills-writes (λ (w : Window). windowStep w (insert s v (leb 384 (length l)))) (insert s v (leb 384 (length l))) (stateOf h (memory ss vs pages blocks)) l
+          (leftOf r (memory ss′ vs′ pages′ blocks′) l′) long refl retired-fills
 
     -- ---- the page is live
     module _ (q : Put) (n : k ≡ 0 → ⊥) (t : InsertsLive h ss vs pages blocks (p / 64) (h .n) s v q ss′ vs′ pages′ blocks′) where
@@ -112,7 +112,7 @@ module _ (h : AdaptiveReceiverPacketWindow) (ss vs pages blocks l : List ℕ) (s
           step-is
           ∙ ap (λ (x : Returned). effect (afterPut (x .after) g (insertPage (h .n) (x .after .pages g) s v)) (insertPage (h .n) (x .after .pages g) s v .answer) (x .out)) (live ok)
 
-      pub live-writes : Writes (insert s v (leb 384 (length l))) (stateOf h ss vs pages blocks) l (leftOf (replied (q .window) (q .answer)) ss′ vs′ pages′ blocks′ l)
+      pub live-writes : Writes (insert s v (leb 384 (length l))) (stateOf h (memory ss vs pages blocks)) l (leftOf (replied (q .window) (q .answer)) (memory ss′ vs′ pages′ blocks′) l)
       live-writes = record {
         sound = λ ok. record {
           answer = t .answer (placing ok) ∙ ap (λ (x : Effect). x .answer) (sym (step-live ok));
@@ -122,7 +122,7 @@ module _ (h : AdaptiveReceiverPacketWindow) (ss vs pages blocks l : List ℕ) (s
         };
         occupied = λ ok a.
             let u = t .refused (placing ok) a in
-            record { state = λ i. stateOf (u .0 .header i) (u .1 i) (u .2 i) (u .0 .pages-are i) (u .0 .blocks-are i); list = refl; count = refl };
+            record { state = λ i. stateOf (u .0 .header i) (memory (u .1 i) (u .2 i) (u .0 .pages-are i) (u .0 .blocks-are i)); list = refl; count = refl };
         none-with-4 = λ a. refl;
         past-list = refl;
         long-list = refl;

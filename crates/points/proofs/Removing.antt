@@ -133,7 +133,7 @@ module _ (h : AdaptiveReceiverPacketWindow) (ss vs pages blocks : List ℕ) (s p
 
     -- ---- the sequence is absent
     pub absent-writes : readAnswer (x .answer) ≡ absent
-        → Writes (remove s) (stateOf h ss vs pages blocks) [] (leftOf (replied h Absent) (withPart (p / 64) ss xs) (withPart (p / 64) vs ys) pages blocks [])
+        → Writes (remove s) (stateOf h (memory ss vs pages blocks)) [] (leftOf (replied h Absent) (memory (withPart (p / 64) ss xs) (withPart (p / 64) vs ys) pages blocks) [])
     unfolding windowDoes removeStep
     absent-writes a = record {
       sound = λ ok. record { answer = sym a ∙ answered ok ∙ sym (step-answer n ok); window = alters ok; returned = refl; count = refl };
@@ -183,7 +183,7 @@ module _ (h : AdaptiveReceiverPacketWindow) (ss vs pages blocks : List ℕ) (s p
       same-size = ap (λ (u : Window). u .header .«window_size») changes
 
       pub found-writes : readAnswer (x .answer) ≡ found v
-          → Writes (remove s) (stateOf h ss vs pages blocks) [] (leftOf (replied win (Found v)) (withPart (p / 64) ss xs) (withPart (p / 64) vs ys) pages′ blocks′ [])
+          → Writes (remove s) (stateOf h (memory ss vs pages blocks)) [] (leftOf (replied win (Found v)) (memory (withPart (p / 64) ss xs) (withPart (p / 64) vs ys) pages′ blocks′) [])
       unfolding windowDoes removeStep
       found-writes a = record {
         sound = λ ok. record { answer = sym a ∙ answered ok ∙ sym (step-answer n ok); window = alters ok; returned = refl; count = refl };

@@ -34,7 +34,7 @@ use Rattle.page_insert.specs.InsertLaws.{insert-leaves}
 use Rattle.page_remove.specs.Contracts.{Wrote, stretch}
 use Rattle.releases.specs.declared.PageReleased.{PageReleased}
 use Rattle.releases.specs.Contracts.{Within, Inside, Revives}
-use Rattle.soundness.specs.PointLaws.{proper-decode}
+use Rattle.soundness.specs.ProperLaws.{proper-decode}
 use Rattle.soundness.specs.ReviveLaws.{Revived, revive-revives}
 use Rattle.calls.specs.Answers.{answerOf, numberOf}
 use Rattle.points.proofs.Exchanging.{isRefusal}

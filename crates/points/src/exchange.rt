@@ -12,6 +12,7 @@ use window::memory::position;
 use window::refusals::Refusal;
 use window::refusals::fits;
 ghost use mathlib.Core.List.{[]};
+ghost use Rattle.window.specs.Memory.{memory};
 ghost use Rattle.model.specs.Calls.{exchange as exchangeOf};
 ghost use Rattle.model.specs.Contract.{Meets};
 ghost use Rattle.calls.specs.Answers.{stateOf, leftOf};
@@ -25,8 +26,8 @@ pub fn exchange(
     sequence: u32,
     value: u32,
 ) -> Step
-    ensures { λ r. ⌜ Meets (exchangeOf sequence value) (stateOf w (now (sequences .entry)) (now (values .entry)) (now (pages .entry)) (now (blocks .entry))) []
-        (leftOf r (now (sequences .entry)) (now (values .exit)) (now (pages .entry)) (now (blocks .entry)) []) ⌝ }
+    ensures { λ r. ⌜ Meets (exchangeOf sequence value) (stateOf w (memory (now (sequences .entry)) (now (values .entry)) (now (pages .entry)) (now (blocks .entry)))) []
+        (leftOf r (memory (now (sequences .entry)) (now (values .exit)) (now (pages .entry)) (now (blocks .entry))) []) ⌝ }
 {
     if !fits(w, sequences.len(), values.len(), pages.len(), blocks.len()) {
         return refuse(w, Refusal::ShortMemory);

@@ -17,6 +17,7 @@ use window::refusals::fits_with_list;
 ghost use Prim.Native.Nat.{_+_, _*_, _/_, _≤_, _<_};
 ghost use lib.Dec.{leb};
 ghost use lib.ListN.{length};
+ghost use Rattle.window.specs.Memory.{memory};
 ghost use Rattle.model.specs.Calls.{insert as insertOf};
 ghost use Rattle.model.specs.Contract.{Meets};
 ghost use Rattle.calls.specs.Answers.{stateOf, leftOf};
@@ -145,8 +146,8 @@ pub fn insert(
     sequence: u32,
     value: u32,
 ) -> Step
-    ensures { λ r. ⌜ Meets (insertOf sequence value (leb 384 (length (now (returned .entry))))) (stateOf w (now (sequences .entry)) (now (values .entry)) (now (pages .entry)) (now (blocks .entry))) (now (returned .entry))
-        (leftOf r (now (sequences .exit)) (now (values .exit)) (now (pages .exit)) (now (blocks .exit)) (now (returned .exit))) ⌝ }
+    ensures { λ r. ⌜ Meets (insertOf sequence value (leb 384 (length (now (returned .entry))))) (stateOf w (memory (now (sequences .entry)) (now (values .entry)) (now (pages .entry)) (now (blocks .entry)))) (now (returned .entry))
+        (leftOf r (memory (now (sequences .exit)) (now (values .exit)) (now (pages .exit)) (now (blocks .exit))) (now (returned .exit))) ⌝ }
 {
     if !fits_with_list(
         w,

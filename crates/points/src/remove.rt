@@ -12,6 +12,7 @@ use window::memory::position;
 use window::refusals::Refusal;
 use window::refusals::fits;
 ghost use mathlib.Core.List.{[]};
+ghost use Rattle.window.specs.Memory.{memory};
 ghost use Rattle.model.specs.Calls.{remove as removeOf};
 ghost use Rattle.model.specs.Contract.{Meets};
 ghost use Rattle.calls.specs.Answers.{stateOf, leftOf};
@@ -24,8 +25,8 @@ pub fn remove(
     blocks: &mut [u64],
     sequence: u32,
 ) -> Step
-    ensures { λ r. ⌜ Meets (removeOf sequence) (stateOf w (now (sequences .entry)) (now (values .entry)) (now (pages .entry)) (now (blocks .entry))) []
-        (leftOf r (now (sequences .exit)) (now (values .exit)) (now (pages .exit)) (now (blocks .exit)) []) ⌝ }
+    ensures { λ r. ⌜ Meets (removeOf sequence) (stateOf w (memory (now (sequences .entry)) (now (values .entry)) (now (pages .entry)) (now (blocks .entry)))) []
+        (leftOf r (memory (now (sequences .exit)) (now (values .exit)) (now (pages .exit)) (now (blocks .exit))) []) ⌝ }
 {
     if !fits(w, sequences.len(), values.len(), pages.len(), blocks.len()) {
         return refuse(w, Refusal::ShortMemory);

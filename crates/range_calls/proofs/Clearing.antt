@@ -11,7 +11,7 @@ use Rattle.window.specs.declared.AdaptiveReceiverPacketWindow.{AdaptiveReceiver
 use Rattle.window.specs.declared.answers.Answer.the-variants.{Done, Found}
 use Rattle.window.specs.Memory.{memory, pageCount, blockCount}
 use Rattle.window.specs.MemoryLaws.{capacity-le}
-use Rattle.window.specs.RefusalLaws.{Fits}
+use Rattle.window.specs.Refusals.{Fits}
 use Rattle.model.specs.Calls.{clear, clear-bounded, done, found}
 use Rattle.model.specs.Window.{Window, decode, pagesOf}
 use Rattle.model.specs.Steps.{Release, release, Returned, releasePages, retireAll, effect, windowStep, windowDoes, clearStep, clearBoundedStep}
@@ -20,7 +20,7 @@ use Rattle.page_remove.specs.Contracts.{stretch}
 use Rattle.page_remove.specs.WroteLaws.{stretch-length}
 use Rattle.soundness.specs.Change.{Limits}
 use Rattle.soundness.specs.BoundLaws.{total-le}
-use Rattle.soundness.specs.PointLaws.{proper-decode}
+use Rattle.soundness.specs.ProperLaws.{proper-decode}
 use Rattle.soundness.specs.RetireRangeLaws.{proper-all}
 use Rattle.releases.specs.declared.PageReleased.{PageReleased}
 use Rattle.retires.specs.Contracts.{RetiresAll}
@@ -87,9 +87,9 @@ module _ (h : AdaptiveReceiverPacketWindow) (ss vs pages blocks : List ℕ) (h�
     unfolding clearStep
     gives ok = ap (λ (x : Release). effect (x .after) done (x .out)) (t .gives (sound-all ok) ∙ ap (release 256) (retired ok))
 
-    pub clear-fills : Fills clearStep (stateOf h ss vs pages blocks) l (leftOf (finished (r .window) Done (r .count) (r .sound)) ss vs pages′ blocks′ l′)
+    pub clear-fills : Fills clearStep (stateOf h (memory ss vs pages blocks)) l (leftOf (finished (r .window) Done (r .count) (r .sound)) (memory ss vs pages′ blocks′) l′)
     clear-fills =
-        finished-fills clearStep (stateOf h ss vs pages blocks) l (r .window) Done (r .count) (r .sound) ss vs pages′ blocks′ l′
+        finished-fills clearStep (stateOf h (memory ss vs pages blocks)) l (r .window) Done (r .count) (r .sound) ss vs pages′ blocks′ l′
         refl (t .wrote) (omega (arith, t .few, t .paid))
         (words-past (h .«window_size») ss vs pages blocks pages′ blocks′ (both-within pages′ blocks′ (t .within)))
         (words-lengths (h .«window_size») ss vs pages blocks pages′ blocks′ (both-within pages′ blocks′ (t .within)))
@@ -114,9 +114,9 @@ module _ (h : AdaptiveReceiverPacketWindow) (ss vs pages blocks : List ℕ) (h�
         ap (λ (n : ℕ). effect (decode (r .window) (memory ss vs pages′ blocks′)) (found n) (stretch 0 (r .count) l′)) (sym (stretch-length 0 (r .count) l′ (omega (arith, few, long, t .wrote .long))))
         ∙ ap (λ (x : Returned). effect (x .after) (found (length (x .out))) (x .out)) (t .gives (sound-all ok) (none-live ok) ∙ pages-released ok)
 
-    pub clear-bounded-fills : Fills (λ (w : Window). clearBoundedStep w number) (stateOf h ss vs pages blocks) l (leftOf (finished (r .window) (Found (r .count)) (r .count) (r .sound)) ss vs pages′ blocks′ l′)
+    pub clear-bounded-fills : Fills (λ (w : Window). clearBoundedStep w number) (stateOf h (memory ss vs pages blocks)) l (leftOf (finished (r .window) (Found (r .count)) (r .count) (r .sound)) (memory ss vs pages′ blocks′) l′)
     clear-bounded-fills =
-        finished-fills (λ (w : Window). clearBoundedStep w number) (stateOf h ss vs pages blocks) l (r .window) (Found (r .count)) (r .count) (r .sound) ss vs pages′ blocks′ l′
+        finished-fills (λ (w : Window). clearBoundedStep w number) (stateOf h (memory ss vs pages blocks)) l (r .window) (Found (r .count)) (r .count) (r .sound) ss vs pages′ blocks′ l′
         refl (t .wrote) few
         (words-past (h .«window_size») ss vs pages blocks pages′ blocks′ (both-within pages′ blocks′ (t .within)))
         (words-lengths (h .«window_size») ss vs pages blocks pages′ blocks′ (both-within pages′ blocks′ (t .within)))

@@ -45,7 +45,7 @@ module _ (step : Window → Effect) (u : State) (l : List ℕ) (h : AdaptiveRece
       → SamePast (u .header .«window_size») (u .memory) (memory ss′ vs′ pages′ blocks′) → SameLengths (u .memory) (memory ss′ vs′ pages′ blocks′)
       → (Sound (windowOf u) → sound ≡ true)
       → (Sound (windowOf u) → effect (decode h (memory ss′ vs′ pages′ blocks′)) (answerOf a) (stretch 0 k l′) ≡ step (windowOf u))
-      → Fills step u l (leftOf (finished h a k sound) ss′ vs′ pages′ blocks′ l′)
+      → Fills step u l (leftOf (finished h a k sound) (memory ss′ vs′ pages′ blocks′) l′)
   unfolding finished
   finished-fills wrote few past lengths is gives = record {
     wrote = wrote;

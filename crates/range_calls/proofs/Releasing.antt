@@ -41,9 +41,9 @@ module _ (h : AdaptiveReceiverPacketWindow) (ss vs pages blocks l : List ℕ) (b
       (sym (stretch-length 0 (r .count) l′ (omega (arith, few, long, t .wrote .long))))
       ∙ ap (λ (x : Release). effect (x .after) (released (length (x .out)) (x .units)) (x .out)) (t .gives ok)
 
-  pub release-fills : Fills (λ (w : Window). releaseStep w budget) (stateOf h ss vs pages blocks) l
-      (leftOf (finished (r .window) (Released (r .count) (r .units)) (r .count) (r .sound)) ss vs pages′ blocks′ l′)
+  pub release-fills : Fills (λ (w : Window). releaseStep w budget) (stateOf h (memory ss vs pages blocks)) l
+      (leftOf (finished (r .window) (Released (r .count) (r .units)) (r .count) (r .sound)) (memory ss vs pages′ blocks′) l′)
   release-fills =
-      finished-fills (λ (w : Window). releaseStep w budget) (stateOf h ss vs pages blocks) l (r .window) (Released (r .count) (r .units)) (r .count) (r .sound) ss vs pages′ blocks′ l′
+      finished-fills (λ (w : Window). releaseStep w budget) (stateOf h (memory ss vs pages blocks)) l (r .window) (Released (r .count) (r .units)) (r .count) (r .sound) ss vs pages′ blocks′ l′
       refl (t .wrote) few (words-past (h .«window_size») ss vs pages blocks pages′ blocks′ (t .within)) (words-lengths (h .«window_size») ss vs pages blocks pages′ blocks′ (t .within))
       (t .sound) gives

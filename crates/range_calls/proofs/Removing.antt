@@ -24,7 +24,7 @@ use Rattle.masks.specs.BlockLaws.{decode-header}
 use Rattle.soundness.specs.Change.{Limits, limitsOf, SameLimits}
 use Rattle.soundness.specs.BoundLaws.{len-le}
 use Rattle.soundness.specs.PageLaws.{cond-holds}
-use Rattle.soundness.specs.PointLaws.{proper-decode}
+use Rattle.soundness.specs.ProperLaws.{proper-decode}
 use Rattle.soundness.specs.LimitLaws.{limits-either, drop-limits, range-limits}
 use Rattle.soundness.specs.Retire.{Retiring}
 use Rattle.soundness.specs.RetireLaws.{proper-retiring, retiring-drop}
@@ -182,13 +182,13 @@ module _ (h : AdaptiveReceiverPacketWindow) (ss vs pages blocks l : List ℕ) (s
     unfolding decode retired rangeStep
     gives = λ i. effect (visit i .after) (found (removed-is i)) (out-is i)
 
-  pub range-fills : Fills (λ (v : Window). rangeStep v start count) (stateOf h ss vs pages blocks) l
-      (leftOf (finished (r₂ .window) (Found removed) (r₁ .count + r₂ .count) (r₁ .sound && r₂ .sound)) ss₁ vs₁ pages₂ blocks₂ l₂)
+  pub range-fills : Fills (λ (v : Window). rangeStep v start count) (stateOf h (memory ss vs pages blocks)) l
+      (leftOf (finished (r₂ .window) (Found removed) (r₁ .count + r₂ .count) (r₁ .sound && r₂ .sound)) (memory ss₁ vs₁ pages₂ blocks₂) l₂)
   range-fills =
       let m = memory ss vs pages blocks in
       let m₁ = memory ss₁ vs₁ pages₁ blocks₁ in
       let m₂ = memory ss₁ vs₁ pages₂ blocks₂ in
-      finished-fills (λ (v : Window). rangeStep v start count) (stateOf h ss vs pages blocks) l (r₂ .window) (Found removed) (r₁ .count + r₂ .count) (r₁ .sound && r₂ .sound) ss₁ vs₁ pages₂ blocks₂ l₂
+      finished-fills (λ (v : Window). rangeStep v start count) (stateOf h (memory ss vs pages blocks)) l (r₂ .window) (Found removed) (r₁ .count + r₂ .count) (r₁ .sound && r₂ .sound) ss₁ vs₁ pages₂ blocks₂ l₂
       refl (wrote-then 0 (r₁ .count) (r₂ .count) l l₁ l₂ (t .wrote) begins) (omega (arith, t .few, u .few, u .paid))
       (past-then (h .«window_size») m m₁ m₂ (t .past) (words-past (h .«window_size») ss₁ vs₁ pages₁ blocks₁ pages₂ blocks₂ within))
       (lengths-then m m₁ m₂ (t .lengths) (words-lengths (h .«window_size») ss₁ vs₁ pages₁ blocks₁ pages₂ blocks₂ within))

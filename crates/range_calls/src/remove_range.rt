@@ -15,7 +15,7 @@ ghost use Prim.Native.Nat.{_≤_, _<_};
 ghost use lib.Dec.{leb};
 ghost use lib.ListN.{length};
 ghost use Rattle.window.specs.Memory.{memory, capacity};
-ghost use Rattle.window.specs.RefusalLaws.{Fits};
+ghost use Rattle.window.specs.Refusals.{Fits};
 ghost use Rattle.model.specs.Calls.{remove-range};
 ghost use Rattle.model.specs.Steps.{rangeStep};
 ghost use Rattle.model.specs.Contract.{Meets};
@@ -78,8 +78,8 @@ fn remove_positions(
 ) -> Step
     requires { ⌜ Fits w (length (now sequences)) (length (now values)) (length (now pages)) (length (now blocks)) ⌝ }
     requires { ⌜ (start < capacity (w .«window_size»)) × (0 < count) × (count ≤ capacity (w .«window_size»)) × (384 ≤ length (now returned)) ⌝ }
-    ensures { λ r. ⌜ Fills (λ v. rangeStep v start count) (stateOf w (now (sequences .entry)) (now (values .entry)) (now (pages .entry)) (now (blocks .entry))) (now (returned .entry))
-        (leftOf r (now (sequences .exit)) (now (values .exit)) (now (pages .exit)) (now (blocks .exit)) (now (returned .exit))) ⌝ }
+    ensures { λ r. ⌜ Fills (λ v. rangeStep v start count) (stateOf w (memory (now (sequences .entry)) (now (values .entry)) (now (pages .entry)) (now (blocks .entry)))) (now (returned .entry))
+        (leftOf r (memory (now (sequences .exit)) (now (values .exit)) (now (pages .exit)) (now (blocks .exit))) (now (returned .exit))) ⌝ }
 {
     let retired = retire(w, sequences, values, pages, blocks, returned, start, count);
     let left = retired.window;
@@ -110,8 +110,8 @@ pub fn remove_range(
     first: u32,
     last: u32,
 ) -> Step
-    ensures { λ r. ⌜ Meets (remove-range first last (leb 384 (length (now (returned .entry))))) (stateOf w (now (sequences .entry)) (now (values .entry)) (now (pages .entry)) (now (blocks .entry))) (now (returned .entry))
-        (leftOf r (now (sequences .exit)) (now (values .exit)) (now (pages .exit)) (now (blocks .exit)) (now (returned .exit))) ⌝ }
+    ensures { λ r. ⌜ Meets (remove-range first last (leb 384 (length (now (returned .entry))))) (stateOf w (memory (now (sequences .entry)) (now (values .entry)) (now (pages .entry)) (now (blocks .entry)))) (now (returned .entry))
+        (leftOf r (memory (now (sequences .exit)) (now (values .exit)) (now (pages .exit)) (now (blocks .exit))) (now (returned .exit))) ⌝ }
 {
     if !fits_with_list(
         w,

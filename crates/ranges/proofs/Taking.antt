@@ -14,7 +14,7 @@ use Rattle.words.specs.Word.{isSet}
 use Rattle.window.specs.declared.AdaptiveReceiverPacketWindow.{AdaptiveReceiverPacketWindow}
 use Rattle.window.specs.Memory.{Memory, memory, capacity, pageCount, blockCount}
 use Rattle.window.specs.MemoryLaws.{capacity-pages, page-count-le}
-use Rattle.window.specs.RefusalLaws.{Fits}
+use Rattle.window.specs.Refusals.{Fits}
 use Rattle.model.specs.Window.{Page, Window, window, decode, isRetired}
 use Rattle.model.specs.Pages.{PageDrained, pageDrained, drainPage, holdsValue}
 use Rattle.model.specs.Steps.{returnedBy, withPage, noteNonempty, removeSlots}

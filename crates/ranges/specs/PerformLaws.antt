@@ -8,7 +8,7 @@ use native.Mathlib.Omega.{arith}
 use lib.ListN.{length}
 use Rattle.window.specs.declared.AdaptiveReceiverPacketWindow.{AdaptiveReceiverPacketWindow}
 use Rattle.window.specs.Memory.{Memory}
-use Rattle.window.specs.RefusalLaws.{Fits, Within, LongEnough}
+use Rattle.window.specs.Refusals.{Fits, Within, LongEnough}
 use Rattle.model.specs.Window.{Window, decode}
 use Rattle.model.specs.Steps.{Returned, returnedBy}
 use Rattle.model.specs.Contract.{SamePast, SameLengths}

@@ -6,7 +6,7 @@ use window::memory::capacity;
 ghost use Prim.Native.Nat.{_+_, _≤_, _<_};
 ghost use lib.ListN.{length};
 ghost use Rattle.window.specs.Memory.{memory, capacity as capacityOf};
-ghost use Rattle.window.specs.RefusalLaws.{Fits};
+ghost use Rattle.window.specs.Refusals.{Fits};
 ghost use Rattle.model.specs.Steps.{retireRange};
 ghost use Rattle.ranges.specs.Spans.{twoStretches};
 ghost use Rattle.ranges.specs.Contracts.{Performs};

@@ -14,7 +14,7 @@ ghost use Prim.Native.Nat.{_+_, _*_, _≤_, _<_};
 ghost use lib.ListN.{length};
 ghost use Rattle.words.specs.Word.{isSet};
 ghost use Rattle.window.specs.Memory.{memory, pageCount};
-ghost use Rattle.window.specs.RefusalLaws.{Fits};
+ghost use Rattle.window.specs.Refusals.{Fits};
 ghost use Rattle.model.specs.Steps.{removeSlots};
 ghost use Rattle.pages.specs.Page.{wordsAt, partOf};
 ghost use Rattle.page_remove.specs.Contracts.{Drains};

@@ -6,7 +6,7 @@ use window::AdaptiveReceiverPacketWindow;
 ghost use Prim.Native.Nat.{_+_, _*_, _/_, _≤_, _<_};
 ghost use lib.ListN.{length};
 ghost use Rattle.window.specs.Memory.{memory, capacity};
-ghost use Rattle.window.specs.RefusalLaws.{Fits};
+ghost use Rattle.window.specs.Refusals.{Fits};
 ghost use Rattle.model.specs.Steps.{retireStretch};
 ghost use Rattle.soundness.specs.Retire.{firstPage, lastPage};
 ghost use Rattle.ranges.specs.Spans.{partial, spanMost, endPages};

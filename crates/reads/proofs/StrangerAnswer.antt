@@ -57,13 +57,13 @@ other-tag (Refused why) n k e = not-found (refused (refusalNumber why)) n refl e
 -- ---- the pair, by what get gives for its sequence
 
 module _ (h : AdaptiveReceiverPacketWindow) (ss vs pages blocks : List ℕ) (s : ℕ) (r : Step)
-    (t : Meets (get s) (stateOf h ss vs pages blocks) [] (leftOf r ss vs pages blocks []))
+    (t : Meets (get s) (stateOf h (memory ss vs pages blocks)) [] (leftOf r (memory ss vs pages blocks) []))
     (fit : fits h (length ss) (length vs) (length pages) (length blocks) ≡ true) where
   get-gives : Sound (decode h (memory ss vs pages blocks)) → (e : table.Pair) → liveAt (decode h (memory ss vs pages blocks)) (position (h .«window_size») s) ≡ some e → e .sequence ≡ s
       → answerOf (r .answer .answer) ≡ found (e .value)
   unfolding windowDoes decode
   get-gives ok e z q =
-      t .sound (fit-refusal (stateOf h ss vs pages blocks) (get s) fit) ok .answer ∙ ap (valueIf s) z ∙ rw (eq-eqb (e .sequence) s q) refl
+      t .sound (fit-refusal (stateOf h (memory ss vs pages blocks)) (get s) fit) ok .answer ∙ ap (valueIf s) z ∙ rw (eq-eqb (e .sequence) s q) refl
 
   pub gives-pair : (x : ℕ) → r .answer .answer ≡ Found x → GivesPair h (memory ss vs pages blocks) s (pair s x 0)
   gives-pair x k = record {

@@ -149,8 +149,8 @@ pub fn stranger(
     first: u32,
     last: u32,
 ) -> Step
-    ensures { λ r. ⌜ Meets (strangerOf first last) (stateOf w (now (sequences .entry)) (now (values .entry)) (now (pages .entry)) (now (blocks .entry))) []
-        (leftOf r (now (sequences .entry)) (now (values .entry)) (now (pages .entry)) (now (blocks .entry)) []) ⌝ }
+    ensures { λ r. ⌜ Meets (strangerOf first last) (stateOf w (memory (now (sequences .entry)) (now (values .entry)) (now (pages .entry)) (now (blocks .entry)))) []
+        (leftOf r (memory (now (sequences .entry)) (now (values .entry)) (now (pages .entry)) (now (blocks .entry))) []) ⌝ }
 {
     if !fits(w, sequences.len(), values.len(), pages.len(), blocks.len()) {
         return refuse(w, Refusal::ShortMemory);

@@ -8,11 +8,12 @@ use lib.Dec.{eqb, leb, ltb}
 use Rattle.words.specs.Cases.{bool}
 use Rattle.words.specs.First.{firstFrom, firstRound}
 use Rattle.window.specs.Memory.{position}
-use Rattle.model.specs.Calls.{Call, insert, get, exchange, remove, successor-after, first-from, remove-range, clear, clear-bounded, release-retired, iter, stranger, check, Answer, done, new, replaced, absent, found, pair, released, refused}
-use Rattle.model.specs.Table.{Pair, Table, holds, valueIf, rangeCount, argumentRefusal, covers, sequenceOf, searchFrom}
+use Rattle.model.specs.Calls.{Query, get, successor-after, first-from, iter, stranger, check, Call, insert, exchange, remove, remove-range, clear, clear-bounded, release-retired, ask, Answer, done, new, replaced, absent, found, pair, released, refused}
+use Rattle.model.specs.Roles.{Arguments, no-argument, sequence-argument, range-argument, number-argument, roleOf}
+use Rattle.model.specs.Table.{Pair, Table, holds, valueIf, rangeCount, covers, sequenceOf, searchFrom, isStranger, pairAnswer, strangerIn, Known, first, refusedFor, hasPlaces, argumentRefusal}
 use Rattle.model.specs.Window.{Page, Window, sizeOf, capacityOf, cellOf, liveAt, isReached, cellPair, iterStep}
 use Rattle.model.specs.Pages.{valuesIn, insertPage}
-use Rattle.model.specs.Steps.{Effect, effect, pageOf, liveHere, revive, isStranger, pairAnswer, strangerIn, insertStep, exchangeStep, removeStep, rangeStep, clearStep, clearBoundedStep, releaseStep, unlessRefused, windowStep, windowDoes}
+use Rattle.model.specs.Steps.{Effect, effect, pageOf, liveHere, revive, insertStep, exchangeStep, removeStep, rangeStep, clearStep, clearBoundedStep, releaseStep, unlessRefused, windowAnswer, knownBy, windowStep, windowDoes}
 
 abbrev pub isSeven : Answer → Bool
 isSeven done = false
@@ -62,26 +63,19 @@ page-answer n p s v =
     (λ e. bool (eqb (p .sequences c) s) (λ f. rw (e, f)) (λ f. rw (e, f)))
     (λ e. bool (eqb (p .kind) 2) (λ f. rw (e, f)) (λ f. bool (ltb (valuesIn p) n) (λ k. rw (e, f, k)) (λ k. rw (e, f, k))))
 
--- no refusal for arguments is 7, nor one for lengths
-pub argument-not-7 : (size : ℕ) (c : Call) → isSeven (refused (argumentRefusal size c)) ≡ false
-argument-not-7 size (insert s v true) = refl
-argument-not-7 size (insert s v false) = refl
-argument-not-7 size (get s) = refl
-argument-not-7 size (exchange s v) = refl
-argument-not-7 size (remove s) = refl
-argument-not-7 size (successor-after s) = refl
-argument-not-7 size (first-from s) = refl
-argument-not-7 size (remove-range a b true) = bool (leb (rangeCount a b) size) (λ e. rw e) (λ e. rw e)
-argument-not-7 size (remove-range a b false) = refl
-argument-not-7 size (clear true) = refl
-argument-not-7 size (clear false) = refl
-argument-not-7 size (clear-bounded n true) = bool (leb n 256) (λ e. rw e) (λ e. rw e)
-argument-not-7 size (clear-bounded n false) = refl
-argument-not-7 size (release-retired b true) = bool (leb b 256) (λ e. rw e) (λ e. rw e)
-argument-not-7 size (release-retired b false) = refl
-argument-not-7 size (iter cell) = refl
-argument-not-7 size (stranger a b) = bool (leb (rangeCount a b) size) (λ e. rw e) (λ e. rw e)
-argument-not-7 size check = refl
+-- no refusal for arguments is 7
+tested-not-7 : (k : ℕ) (taken : Bool) (rest : ℕ) → isSeven (refused k) ≡ false → isSeven (refused rest) ≡ false → isSeven (refused (first k taken rest)) ≡ false
+tested-not-7 k true rest a b = b
+tested-not-7 k false rest a b = a
+
+refused-for-not-7 : (k : Known) (a : Arguments) → isSeven (refused (refusedFor k a)) ≡ false
+refused-for-not-7 k no-argument = refl
+refused-for-not-7 k (sequence-argument s) = refl
+refused-for-not-7 k (range-argument a b) = tested-not-7 5 (leb (rangeCount a b) (k .size)) 0 refl refl
+refused-for-not-7 k (number-argument n) = tested-not-7 8 (leb n 256) 0 refl refl
+
+pub argument-not-7 : (k : Known) (c : Call) → isSeven (refused (argumentRefusal k c)) ≡ false
+argument-not-7 k c = tested-not-7 6 (hasPlaces (roleOf c .listed)) (refusedFor k (roleOf c .arguments)) refl (refused-for-not-7 k (roleOf c .arguments))
 
 module _ (w : Window) where
   insert-answer : (s v : ℕ) → isSeven (insertStep w s v .answer) ≡ false
@@ -102,7 +96,7 @@ module _ (w : Window) where
       let c = firstFrom (isReached w) (capacityOf w - cell) cell in
       neither (pair (cellPair w c .sequence) (cellPair w c .value) (c + 1)) done (ltb c (capacityOf w)) refl refl
 
-  stranger-answer : (a b : ℕ) → isSeven (strangerIn w a b) ≡ false
+  stranger-answer : (a b : ℕ) → isSeven (strangerIn (sizeOf w) (liveAt w) a b) ≡ false
   unfolding strangerIn
   stranger-answer a b =
       let start = position (sizeOf w) a in
@@ -110,29 +104,32 @@ module _ (w : Window) where
       let q = firstRound (λ (r : ℕ). covers (capacityOf w) start n r && isStranger a n (liveAt w r)) (capacityOf w) start in
       neither (pairAnswer (liveAt w q)) absent (ltb q (capacityOf w)) (pair-answer (liveAt w q)) refl
 
+  query-not-7 : (q : Query) → isSeven (windowAnswer w q) ≡ false
+  query-not-7 (get s) = value-answer s (liveHere w s)
+  query-not-7 (successor-after s) = search-answer (capacityOf w) (liveAt w) (position (sizeOf w) (s + 1))
+  query-not-7 (first-from s) = search-answer (capacityOf w) (liveAt w) (position (sizeOf w) s)
+  query-not-7 (iter cell) = iter-answer cell
+  query-not-7 (stranger a b) = stranger-answer a b
+  query-not-7 check = refl
+
   -- no call gives 7 on a window
   answer-not-7 : (c : Call) → isSeven (windowDoes w c .answer) ≡ false
   unfolding windowDoes rangeStep clearStep clearBoundedStep releaseStep
   answer-not-7 (insert s v listed) = insert-answer s v
-  answer-not-7 (get s) = value-answer s (liveHere w s)
   answer-not-7 (exchange s v) = exchange-answer s v
   answer-not-7 (remove s) = remove-answer s
-  answer-not-7 (successor-after s) = search-answer (capacityOf w) (liveAt w) (position (sizeOf w) (s + 1))
-  answer-not-7 (first-from s) = search-answer (capacityOf w) (liveAt w) (position (sizeOf w) s)
   answer-not-7 (remove-range a b listed) = refl
   answer-not-7 (clear listed) = refl
   answer-not-7 (clear-bounded n listed) = refl
   answer-not-7 (release-retired b listed) = refl
-  answer-not-7 (iter cell) = iter-answer cell
-  answer-not-7 (stranger a b) = stranger-answer a b
-  answer-not-7 check = refl
+  answer-not-7 (ask q) = query-not-7 q
 
   unless-not-7 : (k : ℕ) (e : Effect) → isSeven (refused k) ≡ false → isSeven (e .answer) ≡ false → isSeven (unlessRefused k w e .answer) ≡ false
   unless-not-7 zero e h i = i
   unless-not-7 (suc k) e h i = h
 
   step-not-7 : (c : Call) → isSeven (windowStep w c .answer) ≡ false
-  step-not-7 c = unless-not-7 (argumentRefusal (sizeOf w) c) (windowDoes w c) (argument-not-7 (sizeOf w) c) (answer-not-7 c)
+  step-not-7 c = unless-not-7 (argumentRefusal (knownBy (w .header)) c) (windowDoes w c) (argument-not-7 (knownBy (w .header)) c) (answer-not-7 c)
 
   pub never-7 : (c : Call) → windowStep w c .answer ≡ refused 7 → ⊥
   never-7 c = not-refused-7 (windowStep w c .answer) (step-not-7 c)

@@ -69,4 +69,4 @@ module _ (w : Window) (ok : Proper w) where
       let v = retireAll w in
       let t = release-as v (proper-retiring v (proper-all w ok)) 256 in
       let r = as-seen (pagesOf v) (pagesOf w) 256 256 (positionsOf v) _ (release 256 v) (pages-same w v (all-limits w)) all-seen t in
-      record { after = r .after; answer = λ h. refl; returned = r .out }
+      record { after = r .after; answer = refl; returned = r .out }

@@ -7,7 +7,7 @@ use Rattle.window.specs.New.{fresh}
 use Rattle.model.specs.Window.{freshWindow}
 use Rattle.model.specs.Positions.{freshPositions}
 use Rattle.model.specs.Contract.{State}
-use Rattle.model.specs.Heads.{Stepped, Began, pairsOf, retiredOf, heldOf, lenOf, Demand-3}
+use Rattle.model.specs.Heads.{Began, head, Demand-3}
 use Rattle.model.specs.Refinement.{Fresh}
 use Rattle.model.proofs.Beginning.{fresh-live, fresh-retired, began-accepted, began-fresh, began-sound, began-fits}
 use Rattle.model.proofs.Carrying.{carries}
@@ -23,9 +23,9 @@ fresh-seen : (size n d : ℕ) (m : Memory) → positionsOf (freshWindow size n d
 unfolding freshWindow fresh
 fresh-seen size n d m = λ i. record { live = λ q. fresh-live size n d m q i; retired = λ q. fresh-retired size n d m q i; cursor = 0 }
 
-pub began : (size : ℕ) (u : State) → Began size u → Fresh size State Stepped pairsOf retiredOf heldOf lenOf (SoundState size) positionsIn u
+pub began : (size : ℕ) (u : State) → Began size u → Fresh size head (SoundState size) positionsIn u
 began size u b = record {
-  sound = record {
+  ok = record {
     of-size = ap (λ (h : AdaptiveReceiverPacketWindow). h .«window_size») (began-accepted size u b .header) ∙ fresh-size size (b .n) (b .demote-at);
     fit = began-fits size u b;
     sound = began-sound size u b;
@@ -37,5 +37,5 @@ began size u b = record {
 pub demand-3 : Demand-3
 unfolding Demand-3
 demand-3 size a b v w xs ys i j g h e =
-    carries size (began-accepted size a i .within .size-high) State Stepped pairsOf retiredOf heldOf lenOf (SoundState size) positionsIn (refinement size)
+    carries size (began-accepted size a i .within .size-high) head (SoundState size) positionsIn (refinement size)
     (began size a i) (began size b j) g h e

@@ -3,8 +3,8 @@
 -- (CountLaws) and a release over several pages (VisitLaws), on positions emptied value by value (SlotLaws), pages newly retired
 -- (MoveLaws, RetireLaws) and ranges (RangeLaws), on everything retired (ClearLaws, ClearBoundedLaws), on every call (CallLaws), on
 -- what a release costs (UnitLaws), on refusal 7 (AnswerLaws), and on states (StateLaws). Then what a window shows: weights of pairs (WeightLaws), of cells and positions
--- (CellLaws), and of what iter gives (IterLaws); what a sound state shows (ShowLaws), each
--- live pair once (OnceLaws); and demand 3 of the window itself (DemandLaws).
+-- (CellLaws), and of what iter gives (IterLaws); each live pair at one position (OnceLaws);
+-- what a sound state shows (ShowLaws); and demand 3 of the window itself (DemandLaws).
 pub mod Seen
 pub mod SeenLaws
 pub mod MarkLaws
@@ -25,6 +25,6 @@ pub mod StateLaws
 pub mod WeightLaws
 pub mod CellLaws
 pub mod IterLaws
-pub mod ShowLaws
 pub mod OnceLaws
+pub mod ShowLaws
 pub mod DemandLaws

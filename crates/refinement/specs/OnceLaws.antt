@@ -1,4 +1,4 @@
--- iter gives each live pair once: a pair stands at its sequence's position, and nowhere else. Assumes nothing.
+-- Each live pair is live at one position: it stands at its sequence's, and nowhere else. Assumes nothing.
 use mathlib.Core.Path.{_≡_, refl, ap}
 use mathlib.Core.Option.{Option, none, some}
 use mathlib.Core.List.{List}
@@ -10,10 +10,9 @@ use Rattle.words.specs.Cases.{bool}
 use Rattle.window.specs.Memory.{position}
 use Rattle.model.specs.Table.{Pair, Table}
 use Rattle.model.specs.Demand3.{copies, also, pairsBelow}
-use Rattle.model.specs.Window.{Window, sizeOf, capacityOf, liveAt, livePairs}
+use Rattle.model.specs.Window.{Window, sizeOf, capacityOf, liveAt}
+use Rattle.model.specs.Sound.{Sound}
 use Rattle.pages.specs.LiveLaws.{InPlace, live-in-place}
-use Rattle.soundness.specs.Change.{Proper}
-use Rattle.refinement.specs.ShowLaws.{live-copies}
 
 module _ (place : ℕ → ℕ) (s v : ℕ) where
   -- one position more: the pair of s does not stand there, or the rest has none
@@ -41,7 +40,5 @@ module _ (place : ℕ → ℕ) (s v : ℕ) where
   once-below t (suc n) ok =
       once-more n (t n) (pairsBelow n t) (ok n (omega arith)) (none-below t n (λ q k. ok q (omega arith))) (once-below t n (λ q k. ok q (omega arith)))
 
-module _ (w : Window) (ok : Proper w) where
-  -- "each once"
-  pub each-once : (s v : ℕ) → copies s v (livePairs w) ≤ 1
-  each-once s v = rw (live-copies w ok s v) (once-below (position (sizeOf w)) s v (liveAt w) (capacityOf w) (live-in-place w (ok .sound)))
+pub once-live : (w : Window) → Sound w → (s v : ℕ) → copies s v (pairsBelow (capacityOf w) (liveAt w)) ≤ 1
+once-live w ok s v = once-below (position (sizeOf w)) s v (liveAt w) (capacityOf w) (live-in-place w ok)

@@ -2,20 +2,22 @@
 use mathlib.Core.Path.{_≡_, refl, sym, ap, _∙_}
 use mathlib.Core.Bool.{Bool, true, false, cond, true≢false}
 use mathlib.Core.Option.{Option, none, some}
-use Prim.Native.Nat.{ℕ, _/_, _%_}
+use Prim.Native.Nat.{ℕ, _-_, _/_, _%_}
 use native.Mathlib.Omega.{arith}
 use native.Mathlib.Decide.{ℕ-discrete}
-use lib.Dec.{leb}
+use lib.Dec.{ltb}
 use borrow.Author.Tests.{eq-eqb, ne-eqb}
 use Rattle.words.specs.Cases.{bool}
+use Rattle.words.specs.First.{firstFrom}
 use Rattle.window.specs.Memory.{position}
 use Rattle.window.specs.MemoryLaws.{position-slot}
-use Rattle.model.specs.Calls.{Call, insert, get, exchange, remove, successor-after, first-from, remove-range, clear, clear-bounded, release-retired, iter, stranger, check}
-use Rattle.model.specs.Table.{Pair, Table, at, putAt, putAnswer, exchangeAt, removeAt, rangeCount}
-use Rattle.model.specs.Window.{Page, Window, sizeOf, pagesOf, cellOf, standsAt, isRetired, liveAt, retiredAt}
+use Rattle.model.specs.Calls.{Query, get, successor-after, first-from, iter, stranger, check, insert, exchange, remove, ask, Answer}
+use Rattle.model.specs.Roles.{ifRefused, roleOf, toldOf}
+use Rattle.model.specs.Table.{Pair, Table, at, putAt, putAnswer, exchangeAt, removeAt, tableAnswer}
+use Rattle.model.specs.Window.{Page, Window, sizeOf, capacityOf, pagesOf, cellOf, standsAt, isRetired, liveAt, retiredAt, isReached, iterStep}
 use Rattle.model.specs.Pages.{setValue, takeCell, afterRemoval, demotes, insertPage, Inserted}
-use Rattle.model.specs.Positions.{Positions, positions, step, does}
-use Rattle.model.specs.Steps.{withPage, noteNonempty, putPage, addLive, subLive, countPromotion, countDemotion, revive, finds, isNew, insertStep, exchangeStep, removeStep, windowStep, windowDoes}
+use Rattle.model.specs.Positions.{Positions, positions, plain, does}
+use Rattle.model.specs.Steps.{withPage, noteNonempty, putPage, addLive, subLive, countPromotion, countDemotion, revive, finds, isNew, insertStep, exchangeStep, removeStep, windowAnswer, windowDoes}
 use Rattle.model.specs.Sound.{Sound}
 use Rattle.pages.specs.Page.{Placed}
 use Rattle.pages.specs.Contracts.{exchanged}
@@ -24,7 +26,7 @@ use Rattle.pages.specs.ExchangeLaws.{exchange-stands}
 use Rattle.page_insert.specs.InsertLaws.{Leaves, insert-leaves}
 use Rattle.page_remove.specs.Remove.{RemovedPage}
 use Rattle.page_remove.specs.RemoveLaws.{remove-when-found, remove-stands}
-use Rattle.soundness.specs.Change.{NothingPast, isPoint}
+use Rattle.soundness.specs.Change.{NothingPast}
 use Rattle.soundness.specs.ExchangeRemoveLaws.{page-lt}
 use Rattle.refinement.specs.Seen.{positionsOf, Follows}
 use Rattle.refinement.specs.SeenLaws.{view-seen, view-then, note-view, add-view, promotion-view, fewer-seen, live-here, point-seen}
@@ -86,7 +88,7 @@ module _ (w : Window) (s : ℕ) where
     unfolding does windowDoes exchangeStep
     exchange-follows v = record {
       after = if-found w _ x (exchangeAt s v) (finds s (liveAt w x)) (exchange-page v) (exchange-absent s v (liveAt w x));
-      answer = λ h. refl;
+      answer = refl;
       returned = refl;
     }
 
@@ -110,7 +112,7 @@ module _ (w : Window) (s : ℕ) where
     unfolding does windowDoes removeStep
     remove-follows = record {
       after = if-found w _ x (removeAt s) (finds s (liveAt w x)) removed-page (remove-absent s (liveAt w x));
-      answer = λ h. refl;
+      answer = refl;
       returned = refl;
     }
 
@@ -160,48 +162,26 @@ module _ (w : Window) (s : ℕ) where
       unfolding does windowDoes insertStep
       insert-follows listed = record {
         after = put-either (isNew (i .answer)) ∙ ap (λ (z : Positions). pointed z x (putAt s v)) (revived .after);
-        answer = λ h. ap some (ap (putAnswer s) stood ∙ sym (leaves .answer));
+        answer = ap some (ap (putAnswer s) stood ∙ sym (leaves .answer));
         returned = revived .out;
       }
 
 -- ---- calls that change nothing
 
-module _ (w : Window) where
-  pub get-follows : (s : ℕ) → Follows w (get s)
-  unfolding does windowDoes
-  get-follows s = record { after = refl; answer = λ h. refl; returned = refl }
+-- an answer of iter is no refusal
+iter-answers : (w : Window) (cell : ℕ) → none ≡ ifRefused (iterStep w cell)
+unfolding iterStep
+iter-answers w cell = bool (ltb (firstFrom (isReached w) (capacityOf w - cell) cell) (capacityOf w)) (λ e. rw e) (λ e. rw e)
 
-  pub successor-follows : (s : ℕ) → Follows w (successor-after s)
-  unfolding does windowDoes
-  successor-follows s = record { after = refl; answer = λ h. refl; returned = refl }
+-- what the table tells of the answer is what the window answers
+asked-as : (w : Window) (q : Query) → toldOf (roleOf (ask q)) (tableAnswer (sizeOf w) (plain (positionsOf w)) q) ≡ roleOf (ask q) .told (windowAnswer w q)
+asked-as w (get s) = refl
+asked-as w (successor-after s) = refl
+asked-as w (first-from s) = refl
+asked-as w (iter cell) = iter-answers w cell
+asked-as w (stranger a b) = refl
+asked-as w check = refl
 
-  pub first-follows : (s : ℕ) → Follows w (first-from s)
-  unfolding does windowDoes
-  first-follows s = record { after = refl; answer = λ h. refl; returned = refl }
-
-  pub iter-follows : (cell : ℕ) → Follows w (iter cell)
-  unfolding does windowDoes
-  iter-follows cell = record { after = refl; answer = λ h. absurd (true≢false (sym h)); returned = refl }
-
-  pub stranger-follows : (a b : ℕ) → Follows w (stranger a b)
-  unfolding does windowDoes
-  stranger-follows a b = record { after = refl; answer = λ h. absurd (true≢false (sym h)); returned = refl }
-
-  pub check-follows : Follows w check
-  unfolding does windowDoes
-  check-follows = record { after = refl; answer = λ h. absurd (true≢false (sym h)); returned = refl }
-
-pub point-follows : (w : Window) → Sound w → NothingPast w → (c : Call) → isPoint c ≡ true → Follows w c
-point-follows w ok past (insert s v listed) e = insert-follows w s ok past v listed
-point-follows w ok past (get s) e = get-follows w s
-point-follows w ok past (exchange s v) e = exchange-follows w s ok v
-point-follows w ok past (remove s) e = remove-follows w s ok
-point-follows w ok past (successor-after s) e = successor-follows w s
-point-follows w ok past (first-from s) e = first-follows w s
-point-follows w ok past (remove-range a b listed) e = absurd (true≢false (sym e))
-point-follows w ok past (clear listed) e = absurd (true≢false (sym e))
-point-follows w ok past (clear-bounded n listed) e = absurd (true≢false (sym e))
-point-follows w ok past (release-retired b listed) e = absurd (true≢false (sym e))
-point-follows w ok past (iter cell) e = iter-follows w cell
-point-follows w ok past (stranger a b) e = stranger-follows w a b
-point-follows w ok past check e = check-follows w
+pub ask-follows : (w : Window) (q : Query) → Follows w (ask q)
+unfolding does windowDoes
+ask-follows w q = record { after = refl; answer = asked-as w q; returned = refl }

@@ -175,4 +175,4 @@ range-follows w ok a b listed e =
     let few = count-few w ok a b e in
     let r = released w ok start count l (count-some a b) few in
     let t = all-swept w ok start count l (count-some a b) few in
-    record { after = r .after; answer = λ h. refl; returned = λ i. t .out i ++ r .out i }
+    record { after = r .after; answer = refl; returned = λ i. t .out i ++ r .out i }

@@ -2,10 +2,9 @@
 -- owes. Definitions only. Assumes nothing.
 use mathlib.Core.Path.{_≡_}
 use mathlib.Core.Bool.{true, _&&_}
-use mathlib.Core.Option.{some}
 use Prim.Native.Nat.{ℕ}
 use Rattle.model.specs.Calls.{Call}
-use Rattle.model.specs.Roles.{roleOf}
+use Rattle.model.specs.Roles.{roleOf, toldOf}
 use Rattle.model.specs.Table.{sum}
 use Rattle.model.specs.Demand3.{one, Entry}
 use Rattle.model.specs.Window.{Window, sizeOf, pagesOf, isRetired, liveAt, retiredAt}
@@ -14,7 +13,7 @@ use Rattle.model.specs.Positions.{Positions, positions, Result, step, does}
 use Rattle.model.specs.Steps.{Effect, windowStep, windowDoes}
 use Rattle.model.specs.Sound.{Sound}
 use Rattle.model.specs.Contract.{State, windowOf, lengthsFit}
-use Rattle.model.specs.Heads.{Stepped, pairsOf, retiredOf, heldOf, lenOf}
+use Rattle.model.specs.Heads.{head}
 use Rattle.model.specs.Refinement.{Refines}
 
 abbrev pub positionsOf : Window → Positions
@@ -23,7 +22,7 @@ positionsOf w = positions (liveAt w) (retiredAt w) (w .header .«release_cursor�
 -- e, of call c, does to window w what r does at its positions
 pub record Alike (w : Window) (c : Call) (e : Effect) (r : Result) : Type 0 where
   pub after : positionsOf (e .after) ≡ r .after
-  pub answer : roleOf c .shared ≡ true → r .answer ≡ some (e .answer)
+  pub answer : toldOf (roleOf c) (r .answer) ≡ roleOf c .told (e .answer)
   pub returned : e .returned ≡ r .returned
 
 -- call c, not refused for its arguments, does to window w what it does at its positions
@@ -51,4 +50,4 @@ pub record SoundState (size : ℕ) (u : State) : Type 0 where
 
 -- what a step of a head owes, as demand 3 needs it
 abbrev pub StepRefines : ℕ → State → Entry → State → Type 0
-StepRefines size = Refines size State Stepped pairsOf retiredOf heldOf lenOf (SoundState size) positionsIn
+StepRefines size = Refines size head (SoundState size) positionsIn

@@ -3,7 +3,7 @@
 use mathlib.Core.Path.{_≡_, sym, ap, subst, _∙_}
 use mathlib.Core.Bool.{not}
 use mathlib.Core.List.{List}
-use Prim.Native.Nat.{ℕ, _/_}
+use Prim.Native.Nat.{ℕ, _/_, _≤_}
 use lib.ListN.{length}
 use Rattle.words.specs.Cases.{bool}
 use Rattle.window.specs.declared.AdaptiveReceiverPacketWindow.{AdaptiveReceiverPacketWindow}
@@ -13,17 +13,18 @@ use Rattle.model.specs.Demand3.{times, copies, SamePairs, values, pairsBelow}
 use Rattle.model.specs.Window.{Window, sizeOf, capacityOf, pagesOf, isRetired, liveAt, retiredAt, livePairs, retiredValues}
 use Rattle.model.specs.Positions.{retiredCount}
 use Rattle.model.specs.Contract.{State, windowOf}
-use Rattle.model.specs.Heads.{Stepped, pairsOf, retiredOf, heldOf, lenOf}
+use Rattle.model.specs.Heads.{head}
 use Rattle.model.specs.Refinement.{Shows, Refinement}
 use Rattle.model.proofs.Sums.{total, equals, each, total-times, total-length, length-values, length-pairs}
 use Rattle.pages.specs.DecodeLaws.{header-at}
 use Rattle.soundness.specs.Change.{Proper}
-use Rattle.soundness.specs.PointLaws.{proper-decode}
+use Rattle.soundness.specs.ProperLaws.{proper-decode}
 use Rattle.soundness.specs.SumLaws.{sum-same}
 use Rattle.refinement.specs.Seen.{positionsOf, positionsIn, SoundState}
 use Rattle.refinement.specs.MarkLaws.{proper-order}
 use Rattle.refinement.specs.CountLaws.{all-counts, all-counts-live}
 use Rattle.refinement.specs.StateLaws.{call-refines}
+use Rattle.refinement.specs.OnceLaws.{once-live}
 use Rattle.refinement.specs.WeightLaws.{weights, weighed, isPair, eachPair, weights-copies, weights-length, weights-values, weights-below}
 use Rattle.refinement.specs.CellLaws.{countedAt, window-weights}
 use Rattle.refinement.specs.IterLaws.{live-cells, retired-cells}
@@ -55,6 +56,10 @@ module _ (w : Window) (ok : Proper w) where
 
   pub live-copies : (s v : ℕ) → copies s v (livePairs w) ≡ copies s v livePositions
   live-copies s v = sym (weights-copies s v (livePairs w)) ∙ live-weights (isPair s v) ∙ weights-copies s v livePositions
+
+  -- "each once"
+  each-once : (s v : ℕ) → copies s v (livePairs w) ≤ 1
+  each-once s v = rw (live-copies s v) (once-live w (ok .sound) s v)
 
   live-times : (v : ℕ) → times v (values (livePairs w)) ≡ times v (values livePositions)
   live-times v =
@@ -88,15 +93,17 @@ module _ (w : Window) (ok : Proper w) where
 -- ---- a state
 
 module _ (size : ℕ) where
-  pub shows : (u : State) → SoundState size u → Shows size State Stepped pairsOf retiredOf heldOf lenOf (SoundState size) positionsIn u
+  pub shows : (u : State) → SoundState size u → Shows size head (SoundState size) positionsIn u
   unfolding SamePairs
   shows u s =
       let w = windowOf u in
       let header : w .header ≡ u .header = header-at (u .header) (u .memory) in
       let ok : Proper w = proper-decode (u .header) (u .memory) (s .sound) in
       let same : sizeOf w ≡ size = ap (λ (h : AdaptiveReceiverPacketWindow). h .«window_size») header ∙ s .of-size in
-      subst (λ (n : ℕ). Shows n State Stepped pairsOf retiredOf heldOf lenOf (SoundState size) positionsIn u) same (record {
+      subst (λ (n : ℕ). Shows n head (SoundState size) positionsIn u) same (record {
+        sound = s .sound;
         live = live-copies w ok;
+        once = each-once w ok;
         live-values = live-times w ok;
         retired-values = retired-times w ok;
         count = ap (λ (h : AdaptiveReceiverPacketWindow). h .len) (sym header) ∙ live-length w ok;
@@ -105,5 +112,5 @@ module _ (size : ℕ) where
       })
 
   -- a head refines the positions
-  pub refinement : Refinement size State Stepped pairsOf retiredOf heldOf lenOf (SoundState size) positionsIn
+  pub refinement : Refinement size head (SoundState size) positionsIn
   refinement = record { shows = shows; refines = λ u v e s t. call-refines size u v e s t }

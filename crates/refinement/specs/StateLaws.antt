@@ -12,18 +12,19 @@ use Rattle.words.specs.Cases.{bool}
 use Rattle.window.specs.declared.AdaptiveReceiverPacketWindow.{AdaptiveReceiverPacketWindow}
 use Rattle.window.specs.Memory.{Memory}
 use Rattle.window.specs.Refusals.{limits, longEnough, fits}
-use Rattle.model.specs.Calls.{Call, insert, get, exchange, remove, successor-after, first-from, remove-range, clear, clear-bounded, release-retired, iter, stranger, check, refused}
+use Rattle.model.specs.Calls.{Call, refused}
+use Rattle.model.specs.Roles.{roleOf, toldOf}
 use Rattle.model.specs.Table.{rangeCount, argumentRefusal}
 use Rattle.model.specs.Demand3.{Entry}
 use Rattle.model.specs.Window.{Window, sizeOf}
 use Rattle.model.specs.Positions.{step}
-use Rattle.model.specs.Steps.{Effect, effect, unlessRefused, windowStep, windowDoes}
+use Rattle.model.specs.Steps.{Effect, effect, unlessRefused, knownBy, windowStep, windowDoes}
 use Rattle.model.specs.Sound.{Sound}
 use Rattle.model.specs.Contract.{State, windowOf, Left, lengthsFit, refusal, SameLengths, Does, Meets}
 use Rattle.model.specs.Heads.{Stepped}
 use Rattle.pages.specs.DecodeLaws.{header-at}
 use Rattle.soundness.specs.Change.{Proper, Limits, limitsOf, SameLimits}
-use Rattle.soundness.specs.PointLaws.{proper-decode}
+use Rattle.soundness.specs.ProperLaws.{proper-decode}
 use Rattle.soundness.specs.CallLaws.{call-limits, sound-call}
 use Rattle.refinement.specs.Seen.{positionsOf, StepFollows, SoundState, StepRefines}
 use Rattle.refinement.specs.CallLaws.{call-follows}
@@ -36,11 +37,11 @@ unless-refused : (k : ℕ) (w : Window) (e : Effect) → (k ≡ 0 → ⊥) → u
 unless-refused zero w e h = absurd (h refl)
 unless-refused (suc k) w e h = refl
 
-refused-step : (w : Window) (c : Call) → (argumentRefusal (sizeOf w) c ≡ 0 → ⊥) → windowStep w c ≡ effect w (refused (argumentRefusal (sizeOf w) c)) []
-refused-step w c h = unless-refused (argumentRefusal (sizeOf w) c) w (windowDoes w c) h
+refused-step : (w : Window) (c : Call) → (argumentRefusal (knownBy (w .header)) c ≡ 0 → ⊥) → windowStep w c ≡ effect w (refused (argumentRefusal (knownBy (w .header)) c)) []
+refused-step w c h = unless-refused (argumentRefusal (knownBy (w .header)) c) w (windowDoes w c) h
 
 module _ (c : Call) (u : State) (l : List ℕ) (r : Left) (m : Meets c u l r) (fit : lengthsFit u ≡ true) where
-  refusal-is : argumentRefusal (sizeOf (windowOf u)) c ≡ refusal u c
+  refusal-is : argumentRefusal (knownBy (windowOf u .header)) c ≡ refusal u c
   refusal-is = rw (fit, header-at (u .header) (u .memory))
 
   refused-does : (refusal u c ≡ 0 → ⊥) → Does c (windowOf u) r
@@ -98,10 +99,11 @@ module _ (size : ℕ) (u v : State) (e : Entry) (s : SoundState size u) (t : Ste
   follows-refines f ok =
       let same : sizeOf (windowOf u) ≡ size = ap (λ (h : AdaptiveReceiverPacketWindow). h .«window_size») (header-at (u .header) (u .memory)) ∙ s .of-size in
       record {
-        sound = ok;
+        ok = ok;
         after = ap positionsOf leaves ∙ f .after ∙ ap (λ (n : ℕ). step n (positionsOf (windowOf u)) (e .call) .after) same;
-        answer = λ h.
-            ap (λ (n : ℕ). step n (positionsOf (windowOf u)) (e .call) .answer) (sym same) ∙ f .answer h ∙ ap some (sym (does .answer) ∙ t .answer);
+        answer =
+            ap (λ (n : ℕ). toldOf (roleOf (e .call)) (step n (positionsOf (windowOf u)) (e .call) .answer)) (sym same) ∙ f .answer
+            ∙ ap (roleOf (e .call) .told) (sym (does .answer) ∙ t .answer);
         returned = sym (t .returned) ∙ does .returned ∙ f .returned ∙ ap (λ (n : ℕ). step n (positionsOf (windowOf u)) (e .call) .returned) same;
       }
 
@@ -117,7 +119,7 @@ module _ (size : ℕ) (u v : State) (e : Entry) (s : SoundState size u) (t : Ste
 
 -- no refusal is 7
 refusal-not-7 : (u : State) (c : Call) → isSeven (refused (refusal u c)) ≡ false
-refusal-not-7 u c = bool (lengthsFit u) (λ e. rw e (argument-not-7 (u .header .«window_size») c)) (λ e. rw e)
+refusal-not-7 u c = bool (lengthsFit u) (λ e. rw e (argument-not-7 (knownBy (u .header)) c)) (λ e. rw e)
 
 -- "Another call may give 7, only on an unsound state": where no other refusal comes first, and the state is not sound
 pub seven-unsound : (c : Call) (u : State) (l : List ℕ) (r : Left) → Meets c u l r → r .answer ≡ refused 7 → (refusal u c ≡ 0) × (Sound (windowOf u) → ⊥)

@@ -153,4 +153,4 @@ pub release-follows : (w : Window) → Proper w → (b : ℕ) (listed : Bool) �
 unfolding does windowDoes releaseStep
 release-follows w ok b listed =
     let r = release-as w (proper-retiring w ok) b in
-    record { after = r .after; answer = λ h. (λ i. some (released (length (sym (r .out) i)) (sym (r .units) i))); returned = r .out }
+    record { after = r .after; answer = refl; returned = r .out }

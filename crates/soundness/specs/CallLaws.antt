@@ -7,15 +7,17 @@ use lib.Dec.{leb}
 use Rattle.window.specs.declared.AdaptiveReceiverPacketWindow.{AdaptiveReceiverPacketWindow}
 use Rattle.window.specs.Memory.{Memory, position}
 use Rattle.window.specs.MemoryLaws.{position-lt}
-use Rattle.model.specs.Calls.{Call, insert, get, exchange, remove, successor-after, first-from, remove-range, clear, clear-bounded, release-retired, iter, stranger, check}
+use Rattle.model.specs.Calls.{Call, insert, exchange, remove, remove-range, clear, clear-bounded, release-retired, ask}
 use Rattle.model.specs.Table.{rangeCount, argumentRefusal}
 use Rattle.model.specs.Window.{Window, decode, sizeOf, pagesOf}
-use Rattle.model.specs.Steps.{retireAll, rangeStep, clearStep, clearBoundedStep, releaseStep, Effect, unlessRefused, windowStep, windowDoes}
+use Rattle.model.specs.Steps.{retireAll, rangeStep, clearStep, clearBoundedStep, releaseStep, Effect, unlessRefused, knownBy, windowStep, windowDoes}
 use Rattle.model.specs.Sound.{Sound}
 use Rattle.model.proofs.Keeping.{count-some, range-taken}
-use Rattle.soundness.specs.Change.{Proper, SameLimits, isPoint}
-use Rattle.soundness.specs.LimitLaws.{all-limits, point-limits}
-use Rattle.soundness.specs.PointLaws.{proper-decode, proper-point}
+use Rattle.soundness.specs.Change.{Proper, SameLimits}
+use Rattle.soundness.specs.LimitLaws.{all-limits, insert-limits, exchange-limits, remove-limits}
+use Rattle.soundness.specs.ProperLaws.{proper-decode}
+use Rattle.soundness.specs.ExchangeRemoveLaws.{proper-exchange, proper-remove}
+use Rattle.soundness.specs.InsertLaws.{proper-insert}
 use Rattle.soundness.specs.VisitLaws.{pages-same, proper-release, release-limits, pages-released}
 use Rattle.soundness.specs.RetireRangeLaws.{proper-all, all-len}
 use Rattle.soundness.specs.RetireReleaseLaws.{retiring-release, retiring-release-limits, ranged, ranged-limits, retiring-ranged, count-few}
@@ -53,31 +55,23 @@ module _ (w : Window) (ok : Proper w) where
   unfolding releaseStep
   release-keeps b = record { proper = proper-release b w ok; limits = release-limits b w ok }
 
-  point-keeps : (c : Call) → isPoint c ≡ true → Keeps w (windowDoes w c .after)
-  point-keeps c p = record { proper = proper-point w c p ok; limits = point-limits w c p }
-
-  does-keeps : (c : Call) → argumentRefusal (sizeOf w) c ≡ 0 → Keeps w (windowDoes w c .after)
+  does-keeps : (c : Call) → argumentRefusal (knownBy (w .header)) c ≡ 0 → Keeps w (windowDoes w c .after)
   unfolding windowDoes
-  does-keeps (insert s v listed) z = point-keeps (insert s v listed) refl
-  does-keeps (get s) z = point-keeps (get s) refl
-  does-keeps (exchange s v) z = point-keeps (exchange s v) refl
-  does-keeps (remove s) z = point-keeps (remove s) refl
-  does-keeps (successor-after s) z = point-keeps (successor-after s) refl
-  does-keeps (first-from s) z = point-keeps (first-from s) refl
+  does-keeps (insert s v listed) z = record { proper = proper-insert w s v ok; limits = insert-limits w s v }
+  does-keeps (exchange s v) z = record { proper = proper-exchange w s v ok; limits = exchange-limits w s v }
+  does-keeps (remove s) z = record { proper = proper-remove w s ok; limits = remove-limits w s }
   does-keeps (remove-range a b listed) z = range-keeps a b (range-taken (sizeOf w) a b listed z)
   does-keeps (clear listed) z = clear-keeps
   does-keeps (clear-bounded n listed) z = clear-bounded-keeps n
   does-keeps (release-retired b listed) z = release-keeps b
-  does-keeps (iter cell) z = point-keeps (iter cell) refl
-  does-keeps (stranger a b) z = point-keeps (stranger a b) refl
-  does-keeps check z = point-keeps check refl
+  does-keeps (ask q) z = keeps-same
 
   unless-keeps : (k : ℕ) (e : Effect) → (k ≡ 0 → Keeps w (e .after)) → Keeps w (unlessRefused k w e .after)
   unless-keeps zero e h = h refl
   unless-keeps (suc k) e h = keeps-same
 
   call-keeps : (c : Call) → Keeps w (windowStep w c .after)
-  call-keeps c = unless-keeps (argumentRefusal (sizeOf w) c) (windowDoes w c) (does-keeps c)
+  call-keeps c = unless-keeps (argumentRefusal (knownBy (w .header)) c) (windowDoes w c) (does-keeps c)
 
   pub proper-call : (c : Call) → Proper (windowStep w c .after)
   proper-call c = call-keeps c .proper

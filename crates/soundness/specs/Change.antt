@@ -1,12 +1,11 @@
 -- A window that differs from another in one page, and in its words and counts. Definitions only. Assumes nothing.
 use mathlib.Core.Path.{_≡_}
-use mathlib.Core.Bool.{Bool, true, false, not}
+use mathlib.Core.Bool.{false, not}
 use mathlib.Core.Logic.{_⊎_}
 use Prim.Native.Nat.{ℕ, _+_, _/_, _%_, _^_, _≤_, _<_}
 use lib.Dec.{eqb}
 use Rattle.words.specs.Word.{bitAt, withBit}
 use Rattle.window.specs.declared.AdaptiveReceiverPacketWindow.{AdaptiveReceiverPacketWindow}
-use Rattle.model.specs.Calls.{Call, insert, get, exchange, remove, successor-after, first-from, remove-range, clear, clear-bounded, release-retired, iter, stranger, check}
 use Rattle.model.specs.Demand3.{one}
 use Rattle.model.specs.Window.{Page, Window, noPage, capacityOf, pagesOf, isRetired}
 use Rattle.model.specs.Pages.{valuesIn, holdsValue}
@@ -79,19 +78,3 @@ module _ (w v : Window) (g : ℕ) where
 -- v is w, or w with one page changed
 abbrev pub Alters : Window → Window → Type 0
 Alters w v = (w ≡ v) ⊎ ((g : ℕ) × (q : Page) × (g < pagesOf w) × Changes w v g q)
-
--- the calls that reach one position, or change nothing
-abbrev pub isPoint : Call → Bool
-isPoint (insert s v listed) = true
-isPoint (get s) = true
-isPoint (exchange s v) = true
-isPoint (remove s) = true
-isPoint (successor-after s) = true
-isPoint (first-from s) = true
-isPoint (remove-range a b listed) = false
-isPoint (clear listed) = false
-isPoint (clear-bounded n listed) = false
-isPoint (release-retired b listed) = false
-isPoint (iter cell) = true
-isPoint (stranger a b) = true
-isPoint check = true

@@ -7,12 +7,11 @@ use lib.Dec.{eqb, leb, ltb}
 use lib.ListN.{length}
 use Rattle.words.specs.Cases.{bool}
 use Rattle.words.specs.Word.{isSet, clearBit}
-use Rattle.model.specs.Calls.{Call, insert, get, exchange, remove, successor-after, first-from, remove-range, clear, clear-bounded, release-retired, iter, stranger, check, refused}
 use Rattle.model.specs.Table.{rangeCount}
 use Rattle.model.specs.Window.{Window, sizeOf, capacityOf, blocksOf, cellOf, isRetired}
 use Rattle.model.specs.Pages.{holdsValue, takeCell, afterRemoval, demotes, unlessEmptied, drainPage, insertPage}
-use Rattle.model.specs.Steps.{withHeader, withPage, setHeld, setRetiredBlocks, setMarks, noteNonempty, addLive, subLive, countPromotion, countDemotion, dropBlockMarks, splitBlock, allPositions, Returned, returnedBy, releasePage, revive, removeSlots, retireInBlock, retireBlock, coversBlock, retireBlocks, retirePages, retireStretch, retireRange, retireAll, Effect, effect, pageOf, liveHere, finds, isNew, insertStep, exchangeStep, removeStep, windowStep, windowDoes}
-use Rattle.soundness.specs.Change.{SameLimits, isPoint}
+use Rattle.model.specs.Steps.{withHeader, withPage, setHeld, setRetiredBlocks, setMarks, noteNonempty, addLive, subLive, countPromotion, countDemotion, dropBlockMarks, splitBlock, allPositions, Returned, returnedBy, releasePage, revive, removeSlots, retireInBlock, retireBlock, coversBlock, retireBlocks, retirePages, retireStretch, retireRange, retireAll, Effect, effect, pageOf, liveHere, finds, isNew, insertStep, exchangeStep, removeStep}
+use Rattle.soundness.specs.Change.{SameLimits}
 use Rattle.soundness.specs.Retire.{retireNext, insidePage, firstPage, lastPage}
 
 -- ---- one of two
@@ -155,19 +154,3 @@ module _ (w : Window) (s : ℕ) where
       let p = takeCell (w .pages g) (cellOf (w .pages g) (s % 64)) in
       let u = withPage (subLive w (g / 64) 1) g (afterRemoval d p) in
       limits-either w (countDemotion (noteNonempty u g) (demotes d p)) w (finds s (liveHere w s)) (note-limits u g) refl
-
-pub point-limits : (w : Window) (c : Call) → isPoint c ≡ true → SameLimits w (windowDoes w c .after)
-unfolding windowDoes
-point-limits w (insert s v listed) p = insert-limits w s v
-point-limits w (get s) p = refl
-point-limits w (exchange s v) p = exchange-limits w s v
-point-limits w (remove s) p = remove-limits w s
-point-limits w (successor-after s) p = refl
-point-limits w (first-from s) p = refl
-point-limits w (remove-range a b listed) p = absurd (true≢false (sym p))
-point-limits w (clear listed) p = absurd (true≢false (sym p))
-point-limits w (clear-bounded n listed) p = absurd (true≢false (sym p))
-point-limits w (release-retired b listed) p = absurd (true≢false (sym p))
-point-limits w (iter cell) p = refl
-point-limits w (stranger a b) p = refl
-point-limits w check p = refl

@@ -27,7 +27,7 @@ use Rattle.searches.specs.Search.{isSelected}
 use Rattle.searches.specs.SearchLaws.{selected-nonempty}
 use Rattle.soundness.specs.Change.{Proper, Limits, limitsOf}
 use Rattle.soundness.specs.ReleaseLaws.{proper-release-page}
-use Rattle.soundness.specs.PointLaws.{proper-decode}
+use Rattle.soundness.specs.ProperLaws.{proper-decode}
 use Rattle.soundness.specs.VisitLaws.{next-is, next-none, page-len, page-emptied, page-others, all-retired, none-held, pages-end, pages-spent, pages-next, pages-skip}
 use Rattle.releases.specs.declared.PageReleased.{PageReleased}
 use Rattle.releases.specs.Contracts.{Inside, ReleasesPage}

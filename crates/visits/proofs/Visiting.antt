@@ -11,7 +11,7 @@ use borrow.Author.Tests.{ltb-true}
 use Rattle.words.specs.Cases.{bool}
 use Rattle.window.specs.declared.AdaptiveReceiverPacketWindow.{AdaptiveReceiverPacketWindow}
 use Rattle.window.specs.Memory.{Memory, memory, pageCount, blockCount}
-use Rattle.window.specs.RefusalLaws.{LongEnough}
+use Rattle.window.specs.Refusals.{LongEnough}
 use Rattle.model.specs.Window.{Page, Window, window, decode, pagesOf, isRetired, noPage, noBlock}
 use Rattle.model.specs.Pages.{holdsValue}
 use Rattle.model.specs.Steps.{setCursor, withHeader, dropBlockMarks, releasePage, nextRetired, moveCursor, Release, releaseOf, release}
@@ -26,7 +26,7 @@ use Rattle.masks.specs.Contracts.{ChangesHeader}
 use Rattle.masks.specs.BlockLaws.{decode-header}
 use Rattle.soundness.specs.Change.{Limits, limitsOf}
 use Rattle.soundness.specs.LimitLaws.{drop-limits}
-use Rattle.soundness.specs.PointLaws.{proper-decode}
+use Rattle.soundness.specs.ProperLaws.{proper-decode}
 use Rattle.soundness.specs.VisitLaws.{proper-visit, next-is, next-none, none-next, units-zero, units-none, release-visits}
 use Rattle.releases.specs.declared.PageReleased.{PageReleased}
 use Rattle.releases.specs.Contracts.{Within, Inside, ReleasesPage}

@@ -10,7 +10,7 @@ use Rattle.model.specs.Window.{decode}
 use Rattle.model.specs.Steps.{Release, Returned, release, releasePages}
 use Rattle.model.specs.Sound.{Sound}
 use Rattle.page_remove.specs.WroteLaws.{stretch-length}
-use Rattle.soundness.specs.PointLaws.{proper-decode}
+use Rattle.soundness.specs.ProperLaws.{proper-decode}
 use Rattle.soundness.specs.VisitLaws.{proper-release, proper-release-pages}
 use Rattle.releases.specs.declared.PageReleased.{PageReleased}
 use Rattle.visits.specs.declared.Visited.{Visited}

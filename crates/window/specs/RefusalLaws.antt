@@ -1,7 +1,7 @@
 -- What a test for refusals that passes says of the header and of the lists, and back. Assumes nothing.
 use mathlib.Core.Path.{_≡_, refl, sym, ap, _∙_}
 use mathlib.Core.Bool.{Bool, cond, true, false, _&&_, _||_, true≢false}
-use Prim.Native.Nat.{ℕ, suc, _*_, _≤_}
+use Prim.Native.Nat.{ℕ, suc, _≤_}
 use native.Mathlib.Omega.{arith}
 use lib.Dec.{ltb}
 use borrow.Author.Tests.{ltb-false, leb-true, eqb-true, le-ltb, le-leb, eq-eqb}
@@ -10,28 +10,7 @@ use Rattle.window.specs.declared.refusals.Refusal.{Refusal}
 use Rattle.window.specs.declared.refusals.Refusal.the-variants.{WindowSize, SparseCells, DemoteAt, Occupied, RangeCount, ShortMemory, Unsound, Budget}
 use Rattle.window.specs.declared.refusals.Verdict.{Verdict}
 use Rattle.window.specs.declared.refusals.Verdict.the-variants.{Refuse}
-use Rattle.window.specs.Memory.{capacity, pageCount, blockCount}
-use Rattle.window.specs.Refusals.{refusalNumber, verdictNumber, outside, limits, longEnough, fits, fitsWithList}
-
--- inside the limits of refusals 1 to 3
-pub record Within (size n demoteAt : ℕ) : Type 0 where
-  pub size-low : 1 ≤ size
-  pub size-high : size ≤ 65536
-  pub n-low : 1 ≤ n
-  pub n-high : n ≤ 63
-  pub demote : demoteAt ≤ n
-
--- each list at least as long as window_size names it
-pub record LongEnough (size sequences values pages blocks : ℕ) : Type 0 where
-  pub sequences-long : capacity size ≤ sequences
-  pub values-long : capacity size ≤ values
-  pub pages-long : 3 * pageCount size ≤ pages
-  pub blocks-long : 3 * blockCount size ≤ blocks
-
--- what a call knows of its header and lists once refusal 6 does not apply
-pub record Fits (w : AdaptiveReceiverPacketWindow) (sequences values pages blocks : ℕ) : Type 0 where
-  pub within : Within (w .«window_size») (w .n) (w .«demote_at»)
-  pub long : LongEnough (w .«window_size») sequences values pages blocks
+use Rattle.window.specs.Refusals.{refusalNumber, verdictNumber, outside, limits, longEnough, fits, fitsWithList, Within, LongEnough, Fits}
 
 and-true : (a b : Bool) → (a && b) ≡ true → (a ≡ true) × (b ≡ true)
 and-true true b e = (refl, e)

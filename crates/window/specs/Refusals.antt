@@ -1,7 +1,7 @@
 -- Document 01, 'Refusal by operation': the number of each refusal, and when those that calls share apply.
 -- Definitions only; their laws are in RefusalLaws. Assumes nothing.
 use mathlib.Core.Bool.{Bool, cond, _&&_, _||_}
-use Prim.Native.Nat.{ℕ, _*_}
+use Prim.Native.Nat.{ℕ, _*_, _≤_}
 use lib.Dec.{eqb, ltb, leb}
 use Rattle.window.specs.declared.AdaptiveReceiverPacketWindow.{AdaptiveReceiverPacketWindow}
 use Rattle.window.specs.declared.refusals.Refusal.{Refusal}
@@ -51,3 +51,25 @@ fits w sequences values pages blocks =
 -- the same for a call that takes "a return list of at least 384"
 unfoldable pub fitsWithList : AdaptiveReceiverPacketWindow → ℕ → ℕ → ℕ → ℕ → ℕ → Bool
 fitsWithList w sequences values pages blocks returned = leb 384 returned && fits w sequences values pages blocks
+
+-- ---- the same as facts
+
+-- inside the limits of refusals 1 to 3
+pub record Within (size n demoteAt : ℕ) : Type 0 where
+  pub size-low : 1 ≤ size
+  pub size-high : size ≤ 65536
+  pub n-low : 1 ≤ n
+  pub n-high : n ≤ 63
+  pub demote : demoteAt ≤ n
+
+-- each list at least as long as window_size names it
+pub record LongEnough (size sequences values pages blocks : ℕ) : Type 0 where
+  pub sequences-long : capacity size ≤ sequences
+  pub values-long : capacity size ≤ values
+  pub pages-long : 3 * pageCount size ≤ pages
+  pub blocks-long : 3 * blockCount size ≤ blocks
+
+-- what a call knows of its header and lists once refusal 6 does not apply
+pub record Fits (w : AdaptiveReceiverPacketWindow) (sequences values pages blocks : ℕ) : Type 0 where
+  pub within : Within (w .«window_size») (w .n) (w .«demote_at»)
+  pub long : LongEnough (w .«window_size») sequences values pages blocks

@@ -40,6 +40,7 @@ use denote.Triple.Table.{entered, cited}
 use denote.Triple.Walked.{says, Stays, stay-dropped, stay-ref, gave-slice, Fit, walkOf, goes-dropped, goes-ref, goes-gave-slice, Walks, ends-at, walked, AllGo, walk-meets}
 use denote.Exit.{yes}
 use denote.Signature.{Slot, plain, typesAt}
+use Rattle.window.specs.Memory.{memory}
 use Rattle.model.specs.Calls.{remove as removeOf}
 use Rattle.model.specs.Contract.{Meets as MeetsCall}
 use Rattle.calls.specs.Answers.{stateOf}
@@ -133,8 +134,8 @@ module _ {M : Type 1} (𝓤 : URA M) (H : Heap 𝓤) (A : Atoms 𝓤) (W : Given
 
   abbrev Said : Step → Lasts core.ended (κs .1) given → Type 0
   Said r zs =
-      MeetsCall (removeOf sequence) (stateOf (now w) (now sequences) (now values) (now pages) (now blocks)) []
-      (leftAt (r .window) (r .answer) (zs .1 .0) (zs .1 .1 .0) (zs .1 .1 .1 .0) (zs .1 .1 .1 .1 .0) [])
+      MeetsCall (removeOf sequence) (stateOf (now w) (memory (now sequences) (now values) (now pages) (now blocks))) []
+      (leftAt (r .window) (r .answer) (memory (zs .1 .0) (zs .1 .1 .0) (zs .1 .1 .1 .0) (zs .1 .1 .1 .1 .0)) [])
 
   -- what the walk ends with: the borrow closed at the new header, the tokens, what says each list's last value, and the outcome
   abbrev at-end : Step → Val → Lasts core.ended (κs .1) given → List (Item 𝓤)

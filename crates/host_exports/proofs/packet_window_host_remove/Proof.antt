@@ -36,6 +36,7 @@ use denote.Triple.Table.{entered, cited}
 use denote.Triple.Walked.{says, Stays, stay-dropped, gave-ref, gave-slice, Fit, walkOf, goes-dropped, goes-gave-ref, goes-gave-slice, Walks, ends-at, walked, AllGo, walk-meets}
 use denote.Exit.{yes}
 use denote.Signature.{Slot, plain, typesAt}
+use Rattle.window.specs.Memory.{memory}
 use Rattle.model.specs.Calls.{remove as removeOf}
 use Rattle.model.specs.Contract.{Meets as MeetsCall}
 use Rattle.calls.specs.Answers.{stateOf}
@@ -125,8 +126,8 @@ module _ {M : Type 1} (𝓤 : URA M) (H : Heap 𝓤) (A : Atoms 𝓤) (W : Given
 
   abbrev Said : Outcome → Lasts core.ended κs a → Type 0
   Said r zs =
-      MeetsCall (removeOf sequence) (stateOf (now w) (now sequences) (now values) (now pages) (now blocks)) []
-      (leftAt (zs .0) r (zs .1 .0) (zs .1 .1 .0) (zs .1 .1 .1 .0) (zs .1 .1 .1 .1 .0) [])
+      MeetsCall (removeOf sequence) (stateOf (now w) (memory (now sequences) (now values) (now pages) (now blocks))) []
+      (leftAt (zs .0) r (memory (zs .1 .0) (zs .1 .1 .0) (zs .1 .1 .1 .0) (zs .1 .1 .1 .1 .0)) [])
 
   -- the call of `outcome_in_numbers`
   abbrev to-told : Outcome → Val → Told 𝓤 H A mem run .Ghost

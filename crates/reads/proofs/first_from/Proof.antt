@@ -3,7 +3,7 @@ use mathlib.Core.Path.{refl, _∙_}
 use native.Mathlib.Omega.{arith}
 use denote.Ref.{now}
 use lib.ListN.{length}
-use Rattle.window.specs.RefusalLaws.{Fits}
+use Rattle.window.specs.Refusals.{Fits}
 use Rattle.window.specs.Memory.{memory}
 use Rattle.model.specs.Calls.{first-from}
 use Rattle.calls.specs.FitLaws as FitLaws

@@ -4,7 +4,7 @@ use Prim.Native.Nat.{_<_}
 use native.Mathlib.Omega.{arith}
 use denote.Ref.{now}
 use lib.ListN.{length}
-use Rattle.window.specs.RefusalLaws.{Fits}
+use Rattle.window.specs.Refusals.{Fits}
 use Rattle.window.specs.Memory.{memory, capacity}
 use Rattle.window.specs.MemoryLaws.{capacity-le}
 use Rattle.model.specs.Calls.{iter}

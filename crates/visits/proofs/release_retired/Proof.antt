@@ -7,7 +7,7 @@ use native.Mathlib.Omega.{arith}
 use lib.ListN.{length}
 use borrow.Author.Tests.{not-true}
 use Rattle.window.specs.Memory.{pageCount}
-use Rattle.window.specs.RefusalLaws.{LongEnough}
+use Rattle.window.specs.Refusals.{LongEnough}
 use Rattle.soundness.specs.Change.{Limits}
 use Rattle.visits.proofs.Visiting.{long-kept, Visiting, visiting-begins, visiting-turn, visiting-unsound, visiting-ends, none-found, visit-unsound}
 use borrow.Author.Needs.{needs}

@@ -4,7 +4,8 @@ use Prim.Native.Nat.{ℕ, _+_, _*_, _/_, _≤_}
 use native.Mathlib.Omega.{arith}
 use denote.Ref.{now}
 use lib.ListN.{length}
-use Rattle.window.specs.RefusalLaws.{Fits}
+use Rattle.window.specs.Memory.{memory}
+use Rattle.window.specs.Refusals.{Fits}
 use Rattle.model.specs.Calls.{exchange}
 use Rattle.window.specs.declared.answers.Step.{Step}
 use Rattle.model.specs.Contract.{Meets}
@@ -152,8 +153,8 @@ returns-3 c =
     let vs = now (s .values) in
     let full : length ys ≡ 64 = x .kept .1 .0 ∙ ap length (lent g vs) ∙ part-length g vs (in-values (c .before .before .before .before .before .before .before .before .before .before)) in
     let gave = subst (λ (l : List ℕ). Exchanges (s .w .n) (c .before .before .before .before .before .before .before .page-words .result) (now (c .before .before .before .before .before .before .page-cells .result)) l (s .sequence) (s .value) (x .result) ys) (lent g vs) (x .ensures) in
-    subst (λ (l : List ℕ). Meets (exchange (s .sequence) (s .value)) (stateOf (s .w) (now (s .sequences)) (now (s .values)) (now (s .pages)) (now (s .blocks))) [] (leftOf (c .reply2 .result) (now (s .sequences)) l (now (s .pages)) (now (s .blocks)) [])) (sym (back g vs ys))
-    (subst (λ (y : Step). Meets (exchange (s .sequence) (s .value)) (stateOf (s .w) (now (s .sequences)) (now (s .values)) (now (s .pages)) (now (s .blocks))) [] (leftOf y (now (s .sequences)) (withPart g vs ys) (now (s .pages)) (now (s .blocks)) [])) (sym (c .reply2 .ensures))
+    subst (λ (l : List ℕ). Meets (exchange (s .sequence) (s .value)) (stateOf (s .w) (memory (now (s .sequences)) (now (s .values)) (now (s .pages)) (now (s .blocks)))) [] (leftOf (c .reply2 .result) (memory (now (s .sequences)) l (now (s .pages)) (now (s .blocks))) [])) (sym (back g vs ys))
+    (subst (λ (y : Step). Meets (exchange (s .sequence) (s .value)) (stateOf (s .w) (memory (now (s .sequences)) (now (s .values)) (now (s .pages)) (now (s .blocks)))) [] (leftOf y (memory (now (s .sequences)) (withPart g vs ys) (now (s .pages)) (now (s .blocks))) [])) (sym (c .reply2 .ensures))
     (step-meets (exchange (s .sequence) (s .value)) (s .w) _ _ _ _ _ (c .before .before .before .before .before .before .before .before .before .before .before .before .before .fits2 .ensures) (replied (s .w) a) _ _ _ _ (c .before .before .before .before .before .before .before .before .before .before .before .before .if1 .left) refl refl
     (exchange-writes (s .w) (now (s .sequences)) (now (s .values)) (now (s .pages)) (now (s .blocks)) (s .sequence) (p .result) (r .result) (p .ensures) (r .ensures) (s .value) (c .before .before .before .before .before .before .before .before .if2 .left) _ _ ys _
     (c .before .before .before .before .before .before .before .page-words .ensures) (c .before .before .before .before .before .before .page-cells .ensures) gave full (fit (c .before .before .before .before .before .before .before .before .before .before .before .before) .long .sequences-long) (fit (c .before .before .before .before .before .before .before .before .before .before .before .before) .long .values-long) a (c .before .read-answer .ensures))))

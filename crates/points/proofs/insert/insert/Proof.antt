@@ -6,7 +6,7 @@ use lib.ListN.{length}
 use borrow.Author.Tests.{not-true}
 use Rattle.window.specs.declared.answers.Answer.the-variants.{Refused}
 use Rattle.window.specs.declared.refusals.Refusal.the-variants.{Unsound}
-use Rattle.window.specs.RefusalLaws.{Fits}
+use Rattle.window.specs.Refusals.{Fits}
 use Rattle.model.specs.Calls.{insert}
 use Rattle.calls.specs.FitLaws.{PageBounds, sequence-bounds}
 use Rattle.calls.specs.ListLaws.{short-list, long-list, writes-meet}

@@ -4,9 +4,10 @@ use Prim.Native.Nat.{ℕ, _+_, _*_, _/_, _≤_}
 use native.Mathlib.Omega.{arith}
 use denote.Ref.{now}
 use lib.ListN.{length}
+use Rattle.window.specs.Memory.{memory}
 use Rattle.window.specs.declared.answers.Answer.the-variants.{Absent, Found}
 use Rattle.window.specs.declared.answers.Step.{Step}
-use Rattle.window.specs.RefusalLaws.{Fits}
+use Rattle.window.specs.Refusals.{Fits}
 use Rattle.model.specs.Calls.{remove}
 use Rattle.model.specs.Contract.{Meets}
 use Rattle.pages.specs.Page.{partOf, withPart}
@@ -213,8 +214,8 @@ returns-3 c =
     let gave = gives-on (c .before .before .before .before .before .before .before .before .before .before .before .before .before .before .before .before) in
     let t = c .before .before .before .before .before .store-removed in
     let q = c .before .before .before .before .before .before .before .before .before .before .read .given in
-    back-both g ss vs xs ys (λ (k l : List ℕ). Meets (remove (s .sequence)) (stateOf (s .w) (now (s .sequences)) (now (s .values)) (now (s .pages)) (now (s .blocks))) [] (leftOf (c .reply2 .result) k l (t .last .1 .0) (t .last .1 .1 .0) []))
-    (subst (λ (y : Step). Meets (remove (s .sequence)) (stateOf (s .w) (now (s .sequences)) (now (s .values)) (now (s .pages)) (now (s .blocks))) [] (leftOf y (withPart g ss xs) (withPart g vs ys) (t .last .1 .0) (t .last .1 .1 .0) [])) (sym (c .reply2 .ensures))
+    back-both g ss vs xs ys (λ (k l : List ℕ). Meets (remove (s .sequence)) (stateOf (s .w) (memory (now (s .sequences)) (now (s .values)) (now (s .pages)) (now (s .blocks)))) [] (leftOf (c .reply2 .result) (memory k l (t .last .1 .0) (t .last .1 .1 .0)) []))
+    (subst (λ (y : Step). Meets (remove (s .sequence)) (stateOf (s .w) (memory (now (s .sequences)) (now (s .values)) (now (s .pages)) (now (s .blocks)))) [] (leftOf y (memory (withPart g ss xs) (withPart g vs ys) (t .last .1 .0) (t .last .1 .1 .0)) [])) (sym (c .reply2 .ensures))
     (step-meets (remove (s .sequence)) (s .w) _ _ _ _ _ (c .before .before .before .before .before .before .before .before .before .before .before .before .before .before .before .before .before .before .before .before .before .before .before .before .before .before .before .before .fits2 .ensures) (replied (t .result) (Found (q .0 .0))) _ _ _ _ (c .before .before .before .before .before .before .before .before .before .before .before .before .before .before .before .before .before .before .before .before .before .before .before .before .before .before .before .if1 .left) refl refl
     (found-writes (s .w) (now (s .sequences)) (now (s .values)) (now (s .pages)) (now (s .blocks)) (s .sequence) (p .result) (r .result) (p .ensures) (r .ensures) (c .before .before .before .before .before .before .before .before .before .before .before .before .before .before .before .before .before .before .before .before .before .if2 .left) _ xs ys (x .result)
     (c .before .before .before .before .before .before .before .before .before .before .before .before .before .before .before .before .before .before .before .page-words .ensures) gave full filled (f .long .sequences-long) (f .long .values-long) (q .0 .0) (t .result) _ _ (t .ensures) (f .long .pages-long) (f .long .blocks-long) (ap readAnswer (q .1)))))
@@ -258,8 +259,8 @@ returns-4 c =
     let full : length xs ≡ 64 = x .kept .0 ∙ ap length (lent g ss) ∙ part-length g ss (in-sequences (c .before .before .before .before .before .before .before .before .before .before .before .before .before .before .before)) in
     let filled : length ys ≡ 64 = x .kept .1 .0 ∙ ap length (lent g vs) ∙ part-length g vs (in-values (c .before .before .before .before .before .before .before .before .before .before .before .before .before .before .before)) in
     let gave = gives-on (c .before .before .before .before .before .before .before) in
-    back-both g ss vs xs ys (λ (k l : List ℕ). Meets (remove (s .sequence)) (stateOf (s .w) (now (s .sequences)) (now (s .values)) (now (s .pages)) (now (s .blocks))) [] (leftOf (c .reply3 .result) k l (now (s .pages)) (now (s .blocks)) []))
-    (subst (λ (y : Step). Meets (remove (s .sequence)) (stateOf (s .w) (now (s .sequences)) (now (s .values)) (now (s .pages)) (now (s .blocks))) [] (leftOf y (withPart g ss xs) (withPart g vs ys) (now (s .pages)) (now (s .blocks)) [])) (sym (c .reply3 .ensures))
+    back-both g ss vs xs ys (λ (k l : List ℕ). Meets (remove (s .sequence)) (stateOf (s .w) (memory (now (s .sequences)) (now (s .values)) (now (s .pages)) (now (s .blocks)))) [] (leftOf (c .reply3 .result) (memory k l (now (s .pages)) (now (s .blocks))) []))
+    (subst (λ (y : Step). Meets (remove (s .sequence)) (stateOf (s .w) (memory (now (s .sequences)) (now (s .values)) (now (s .pages)) (now (s .blocks)))) [] (leftOf y (memory (withPart g ss xs) (withPart g vs ys) (now (s .pages)) (now (s .blocks))) [])) (sym (c .reply3 .ensures))
     (step-meets (remove (s .sequence)) (s .w) _ _ _ _ _ (c .before .before .before .before .before .before .before .before .before .before .before .before .before .before .before .before .before .before .before .fits2 .ensures) (replied (s .w) Absent) _ _ _ _ (c .before .before .before .before .before .before .before .before .before .before .before .before .before .before .before .before .before .before .if1 .left) refl refl
     (absent-writes (s .w) (now (s .sequences)) (now (s .values)) (now (s .pages)) (now (s .blocks)) (s .sequence) (p .result) (r .result) (p .ensures) (r .ensures) (c .before .before .before .before .before .before .before .before .before .before .before .before .if2 .left) _ xs ys (x .result)
     (c .before .before .before .before .before .before .before .before .before .before .page-words .ensures) gave full filled (f .long .sequences-long) (f .long .values-long) (ap readAnswer (c .before .enum-told .given .1)))))

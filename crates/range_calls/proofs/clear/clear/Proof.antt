@@ -7,7 +7,7 @@ use lib.ListN.{length}
 use Rattle.window.specs.declared.answers.Answer.the-variants.{Done}
 use Rattle.window.specs.declared.answers.Step.{Step}
 use Rattle.window.specs.Memory.{memory}
-use Rattle.window.specs.RefusalLaws.{Fits}
+use Rattle.window.specs.Refusals.{Fits}
 use Rattle.model.specs.Calls.{clear}
 use Rattle.model.specs.Window.{decode}
 use Rattle.model.specs.Steps.{clearStep}
@@ -86,8 +86,8 @@ returns-2 c =
     let t = c .before .before .before .before .before .before .before .before .release-retired in
     let f = fit (c .before .before .before .before .before .before .before .before .before .before .before .before .before .before .before .before) in
     let r = t .result in
-    subst (λ (y : Step). Meets (clear (leb 384 (length (now (s .returned))))) (stateOf (s .w) (now (s .sequences)) (now (s .values)) (now (s .pages)) (now (s .blocks))) (now (s .returned))
-    (leftOf y (now (s .sequences)) (now (s .values)) (t .last .1 .1 .1 .0) (t .last .1 .1 .1 .1 .0) (t .last .1 .1 .1 .1 .1 .0))) (sym (c .finish .ensures))
+    subst (λ (y : Step). Meets (clear (leb 384 (length (now (s .returned))))) (stateOf (s .w) (memory (now (s .sequences)) (now (s .values)) (now (s .pages)) (now (s .blocks)))) (now (s .returned))
+    (leftOf y (memory (now (s .sequences)) (now (s .values)) (t .last .1 .1 .1 .0) (t .last .1 .1 .1 .1 .0)) (t .last .1 .1 .1 .1 .1 .0))) (sym (c .finish .ensures))
     (fills-meet (s .w) (now (s .sequences)) (now (s .values)) (now (s .pages)) (now (s .blocks)) (now (s .returned)) _ (c .before .before .before .before .before .before .before .before .before .before .before .before .before .before .before .before .before .fits-with-list .ensures) clear 0 (λ t. refl) (c .before .before .before .before .before .before .before .before .before .before .before .before .before .before .before .before .if1 .left) refl refl (finished (r .window) Done (r .count) (r .sound)) _ _ _ _ _ clearStep (clear-taken (decode (s .w) (memory (now (s .sequences)) (now (s .values)) (now (s .pages)) (now (s .blocks)))) (length (now (s .returned))) (f .0))
     (clear-fills (s .w) (now (s .sequences)) (now (s .values)) (now (s .pages)) (now (s .blocks)) (a .result) _ (a .ensures) (now (s .returned)) r _ _ _ (t .ensures)))
 

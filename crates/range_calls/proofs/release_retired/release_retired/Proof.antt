@@ -8,7 +8,7 @@ use Rattle.window.specs.declared.answers.Answer.the-variants.{Released}
 use Rattle.window.specs.declared.answers.Step.{Step}
 use Rattle.window.specs.declared.refusals.Refusal.the-variants.{Budget}
 use Rattle.window.specs.Memory.{memory}
-use Rattle.window.specs.RefusalLaws.{Fits}
+use Rattle.window.specs.Refusals.{Fits}
 use Rattle.model.specs.Calls.{release-retired}
 use Rattle.model.specs.Window.{Window, decode}
 use Rattle.model.specs.Steps.{releaseStep}
@@ -100,8 +100,8 @@ returns-3 c =
     let f = fit (c .before .before .before .before .before .before .before .before .before .before .before .before .before .before .before) in
     let few : s .budget ≤ 256 = omega (arith, c .before .before .before .before .before .before .before .before .before .before .before .before .before .before .if2 .left) in
     let r = t .result in
-    subst (λ (y : Step). Meets (release-retired (s .budget) (leb 384 (length (now (s .returned))))) (stateOf (s .w) (now (s .sequences)) (now (s .values)) (now (s .pages)) (now (s .blocks))) (now (s .returned))
-    (leftOf y (now (s .sequences)) (now (s .values)) (t .last .1 .1 .1 .0) (t .last .1 .1 .1 .1 .0) (t .last .1 .1 .1 .1 .1 .0))) (sym (c .finish .ensures))
+    subst (λ (y : Step). Meets (release-retired (s .budget) (leb 384 (length (now (s .returned))))) (stateOf (s .w) (memory (now (s .sequences)) (now (s .values)) (now (s .pages)) (now (s .blocks)))) (now (s .returned))
+    (leftOf y (memory (now (s .sequences)) (now (s .values)) (t .last .1 .1 .1 .0) (t .last .1 .1 .1 .1 .0)) (t .last .1 .1 .1 .1 .1 .0))) (sym (c .finish .ensures))
     (fills-meet (s .w) (now (s .sequences)) (now (s .values)) (now (s .pages)) (now (s .blocks)) (now (s .returned)) _ (c .before .before .before .before .before .before .before .before .before .before .before .before .before .before .before .before .fits-with-list .ensures) (release-retired (s .budget)) (first 8 (leb (s .budget) 256) 0) (λ t. refl) (c .before .before .before .before .before .before .before .before .before .before .before .before .before .before .before .if1 .left) (within-taken (s .budget) few) refl (finished (r .window) (Released (r .count) (r .units)) (r .count) (r .sound)) _ _ _ _ _ (λ (w : Window). releaseStep w (s .budget)) (release-taken (decode (s .w) (memory (now (s .sequences)) (now (s .values)) (now (s .pages)) (now (s .blocks)))) (s .budget) (length (now (s .returned))) (f .0) few)
     (release-fills (s .w) (now (s .sequences)) (now (s .values)) (now (s .pages)) (now (s .blocks)) (now (s .returned)) (s .budget) r _ _ _ (f .0) few (t .ensures)))
 

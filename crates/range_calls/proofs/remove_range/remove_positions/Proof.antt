@@ -79,8 +79,8 @@ returns c =
     let u = c .before .before .before .before .before .before .before .before .before .before .before .release-retired in
     let d = c .before .before .before .before .before .before .before .before .before .before .before .before .before .before .before .before .before .wrapping-sub-u32 in
     let r = u .result in
-    subst (λ (y : Step). Fills (λ (v : Window). rangeStep v (s .args .start) (s .args .count)) (stateOf (s .args .w) (now (s .args .sequences)) (now (s .args .values)) (now (s .args .pages)) (now (s .args .blocks))) (now (s .args .returned))
-    (leftOf y (t .last .1 .0) (t .last .1 .1 .0) (u .last .1 .1 .1 .0) (u .last .1 .1 .1 .1 .0) (u .last .1 .1 .1 .1 .1 .0))) (sym (c .finish .ensures))
+    subst (λ (y : Step). Fills (λ (v : Window). rangeStep v (s .args .start) (s .args .count)) (stateOf (s .args .w) (memory (now (s .args .sequences)) (now (s .args .values)) (now (s .args .pages)) (now (s .args .blocks)))) (now (s .args .returned))
+    (leftOf y (memory (t .last .1 .0) (t .last .1 .1 .0) (u .last .1 .1 .1 .0) (u .last .1 .1 .1 .1 .0)) (u .last .1 .1 .1 .1 .1 .0))) (sym (c .finish .ensures))
     (range-fills (s .args .w) (now (s .args .sequences)) (now (s .args .values)) (now (s .args .pages)) (now (s .args .blocks)) (now (s .args .returned)) (s .args .start) (s .args .count) (s .pre .1 .0) (s .pre .1 .1) (s .pre .1 .2)
     (t .result) _ _ _ _ _ (t .ensures) r _ _ _ (u .ensures) (d .result) (omega arith) (d .ensures))
 

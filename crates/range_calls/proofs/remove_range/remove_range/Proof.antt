@@ -7,7 +7,7 @@ use lib.ListN.{length}
 use Rattle.window.specs.declared.refusals.Refusal.the-variants.{RangeCount}
 use Rattle.window.specs.Memory.{memory}
 use Rattle.window.specs.MemoryLaws.{size-le, position-lt}
-use Rattle.window.specs.RefusalLaws.{Fits}
+use Rattle.window.specs.Refusals.{Fits}
 use Rattle.model.specs.Calls.{remove-range}
 use Rattle.model.specs.Table.{rangeCount, first}
 use Rattle.model.specs.Window.{Window}

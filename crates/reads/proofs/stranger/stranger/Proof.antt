@@ -6,7 +6,7 @@ use lib.ListN.{length}
 use borrow.Author.Tests.{not-false}
 use Rattle.window.specs.declared.refusals.Refusal.the-variants.{RangeCount}
 use Rattle.window.specs.MemoryLaws.{size-le}
-use Rattle.window.specs.RefusalLaws.{Fits}
+use Rattle.window.specs.Refusals.{Fits}
 use Rattle.model.specs.Calls.{stranger}
 use Rattle.calls.specs.FitLaws as FitLaws
 use Rattle.calls.specs.RangeLaws.{count-refused, count-taken, count-some}
