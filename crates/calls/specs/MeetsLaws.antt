@@ -176,6 +176,9 @@ module _ (q : Query) (u : State) (t : Verdict)
     pub asked-fits : Fits (u .header) (length (u .memory .sequences)) (length (u .memory .values)) (length (u .memory .pages)) (length (u .memory .blocks))
     asked-fits = admitted-fits (ask q) u 384 refl t test pass
 
+    pub asked-arguments : refusedFor (knownBy (u .header)) (askedOf q .arguments) ≡ 0
+    asked-arguments = admitted-arguments (ask q) u 384 refl t test pass
+
     pub asked-meets : (a : Answer) (r : Step) → r ≡ replied (u .header) a → (askedOf q .checks ≡ true → (Sound (windowOf u) → ⊥) → answerOf a ≡ refused 7)
         → Tells q u a → Meets (ask q) u [] (leftOf r (u .memory) [])
     asked-meets a r e unsound tells =

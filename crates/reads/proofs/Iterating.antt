@@ -1,7 +1,7 @@
 -- iter, over plain variables: the pair of the next reachable cell, or done. Assumes nothing.
 use mathlib.Core.Path.{_≡_, refl, sym, ap, _∙_}
 use mathlib.Core.Bool.{cond}
-use mathlib.Core.List.{List, []}
+use mathlib.Core.List.{List}
 use Prim.Native.Nat.{ℕ, _+_, _-_, _*_, _/_, _%_, _≤_, _<_}
 use native.Mathlib.Omega.{arith}
 use lib.Dec.{ltb}
@@ -11,18 +11,13 @@ use Rattle.words.specs.First.{firstFrom}
 use Rattle.words.specs.FirstLaws.{first-eq}
 use Rattle.window.specs.declared.AdaptiveReceiverPacketWindow.{AdaptiveReceiverPacketWindow}
 use Rattle.window.specs.Memory.{Memory, capacity}
-use Rattle.model.specs.Calls.{Answer, iter, done, pair}
+use Rattle.model.specs.Calls.{Answer, done, pair}
 use Rattle.model.specs.Table.{Pair, pairOf}
 use Rattle.model.specs.Window.{Window, Page, decode, capacityOf, isReached, cellPair, pairIn, iterStep}
-use Rattle.model.specs.Steps.{effect, windowStep, windowDoes}
 use Rattle.pages.specs.Page.{partOf, cells}
 use Rattle.pages.specs.PartLaws.{cells-part}
 use Rattle.pages.specs.DecodeLaws.{page-at}
 use Rattle.calls.specs.FitLaws.{at-bounds}
-
-pub iter-step : (v : Window) (n : ℕ) → windowStep v (iter n) ≡ effect v (iterStep v n) []
-unfolding windowDoes
-iter-step v n = refl
 
 -- ---- by the cell c that was found from cell n on
 

@@ -16,9 +16,8 @@ use Rattle.window.specs.declared.AdaptiveReceiverPacketWindow.{AdaptiveReceiver
 use Rattle.window.specs.Memory.{memory, capacity, position}
 use Rattle.window.specs.MemoryLaws.{position-lt}
 use Rattle.model.specs.Calls.{Answer, absent}
-use Rattle.model.specs.Table.{covers, sequenceOf}
+use Rattle.model.specs.Table.{covers, sequenceOf, isStranger}
 use Rattle.model.specs.Window.{Window, decode, sizeOf, capacityOf, liveAt}
-use Rattle.model.specs.Steps.{isStranger}
 use Rattle.model.specs.Sound.{Sound}
 use Rattle.searches.specs.declared.walk.Found.{Found}
 use Rattle.searches.specs.Contracts.{foundAnswer}

@@ -1,7 +1,7 @@
 -- get, over plain variables: what a page gives is what stands at the sequence's position. Assumes nothing.
 use mathlib.Core.Path.{_≡_, sym, ap, _∙_, subst}
 use mathlib.Core.Option.{Option}
-use mathlib.Core.List.{List, []}
+use mathlib.Core.List.{List}
 use Prim.Native.Nat.{ℕ, _/_, _%_, _<_}
 use Rattle.window.specs.declared.AdaptiveReceiverPacketWindow.{AdaptiveReceiverPacketWindow}
 use Rattle.window.specs.Memory.{Memory, memory, pageCount, position}
@@ -9,7 +9,7 @@ use Rattle.window.specs.MemoryLaws.{position-slot}
 use Rattle.model.specs.Calls.{get, absent}
 use Rattle.model.specs.Table.{Pair, valueIf}
 use Rattle.model.specs.Window.{decode, liveAt, standsAt}
-use Rattle.model.specs.Steps.{effect, windowStep, windowDoes}
+use Rattle.model.specs.Steps.{windowAnswer}
 use Rattle.model.specs.Sound.{Sound}
 use Rattle.pages.specs.declared.PageWords.{PageWords}
 use Rattle.pages.specs.declared.find.Read.{Read}
@@ -32,17 +32,14 @@ module _ (h : AdaptiveReceiverPacketWindow) (ss vs pages blocks : List ℕ) (s p
   slot : p % 64 ≡ s % 64
   slot = ap (λ (x : ℕ). x % 64) e ∙ position-slot (h .«window_size») s
 
-  pub get-step : windowStep (decode h (memory ss vs pages blocks)) (get s)
-      ≡ effect (decode h (memory ss vs pages blocks)) (valueIf s (liveAt (decode h (memory ss vs pages blocks)) p)) []
-  unfolding windowDoes decode
-  get-step = ap (λ (q : ℕ). effect (decode h m) (valueIf s (liveAt (decode h m) q)) []) (sym e)
-
-  pub get-absent : r ≡ 0 → Sound (decode h (memory ss vs pages blocks)) → absent ≡ valueIf s (liveAt (decode h (memory ss vs pages blocks)) p)
-  get-absent z ok = ap (λ (o : Option Pair). valueIf s o) (sym (live-none h m p (unreachable h m ok (p / 64) below r reach z)))
+  pub get-absent : r ≡ 0 → Sound (decode h (memory ss vs pages blocks)) → absent ≡ windowAnswer (decode h (memory ss vs pages blocks)) (get s)
+  unfolding decode
+  get-absent z ok = ap (λ (o : Option Pair). valueIf s o) (sym (live-none h m p (unreachable h m ok (p / 64) below r reach z))) ∙ ap (λ (q : ℕ). valueIf s (liveAt (decode h m) q)) e
 
   -- x is what the page gave, read by its words and its parts of the lists
   pub get-read : (r ≡ 0 → ⊥) → (w : PageWords) (cs ds : List ℕ) (x : Read) → w ≡ wordsAt pages (p / 64) → cs ≡ partOf (p / 64) ss → ds ≡ partOf (p / 64) vs
-      → Reads (h .n) w cs ds s x → Sound (decode h (memory ss vs pages blocks)) → readAnswer x ≡ valueIf s (liveAt (decode h (memory ss vs pages blocks)) p)
+      → Reads (h .n) w cs ds s x → Sound (decode h (memory ss vs pages blocks)) → readAnswer x ≡ windowAnswer (decode h (memory ss vs pages blocks)) (get s)
+  unfolding decode
   get-read n w cs ds x ew ec ed t ok =
       let g = p / 64 in
       let live = live-is h m p below (is-reachable h m ok g below r reach n) in
@@ -50,3 +47,4 @@ module _ (h : AdaptiveReceiverPacketWindow) (ss vs pages blocks : List ℕ) (s p
       ∙ (λ i. readOf (page (ew i) (ec i) (ed i)) s)
       ∙ ap (λ (j : ℕ). valueIf s (standsAt (page (wordsAt pages g) (partOf g ss) (partOf g vs)) j)) (sym slot)
       ∙ ap (λ (o : Option Pair). valueIf s o) (sym live)
+      ∙ ap (λ (q : ℕ). valueIf s (liveAt (decode h m) q)) e

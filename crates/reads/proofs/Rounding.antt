@@ -20,7 +20,7 @@ use Rattle.window.specs.MemoryLaws.{position-lt}
 use Rattle.model.specs.Calls.{successor-after, first-from, Answer, done, new, replaced, absent, found, pair, released, refused}
 use Rattle.model.specs.Table.{Pair, holds, sequenceOf, searchFrom}
 use Rattle.model.specs.Window.{Window, decode, liveAt, capacityOf}
-use Rattle.model.specs.Steps.{effect, windowStep, windowDoes}
+use Rattle.model.specs.Steps.{windowAnswer}
 use Rattle.searches.proofs.walk.Found as enum
 use Rattle.searches.specs.declared.walk.Found.{Found}
 use Rattle.searches.specs.declared.walk.Found.the-variants.{At, Nothing, Unsound}
@@ -153,17 +153,16 @@ module _ (h : AdaptiveReceiverPacketWindow) (ss pages blocks : List ℕ) (s p ca
 abbrev pub roundOf : AdaptiveReceiverPacketWindow → Memory → ℕ → Answer
 roundOf h m s = searchFrom (capacityOf (decode h m)) (liveAt (decode h m)) (position (h .«window_size») (s + 1))
 
-pub after-step : (h : AdaptiveReceiverPacketWindow) (m : Memory) (s : ℕ) → windowStep (decode h m) (successor-after s) ≡ effect (decode h m) (roundOf h m s) []
-unfolding windowDoes decode
-after-step h m s = refl
+pub after-is : (h : AdaptiveReceiverPacketWindow) (m : Memory) (s : ℕ) → roundOf h m s ≡ windowAnswer (decode h m) (successor-after s)
+unfolding decode
+after-is h m s = refl
 
 -- a is the sequence before s, and its lowest 31 bits are looked for
-pub from-step : (h : AdaptiveReceiverPacketWindow) (m : Memory) (s a : ℕ) → (a + 1) % 2 ^ 32 ≡ s
-    → windowStep (decode h m) (first-from s) ≡ effect (decode h m) (roundOf h m (a % 2 ^ 31)) []
-unfolding windowDoes decode
-from-step h m s a e =
+pub from-is : (h : AdaptiveReceiverPacketWindow) (m : Memory) (s a : ℕ) → (a + 1) % 2 ^ 32 ≡ s → roundOf h m (a % 2 ^ 31) ≡ windowAnswer (decode h m) (first-from s)
+unfolding decode
+from-is h m s a e =
     let size = h .«window_size» in
     let q : position size s ≡ position size (a % 2 ^ 31 + 1) =
     ap (position size) (sym e) ∙ low-position size (a + 1) 32 (omega arith) ∙ next-position size a
     ∙ ap (λ (p : ℕ). (p + 1) % capacity size) (sym (low-position size a 31 (omega arith))) ∙ sym (next-position size (a % 2 ^ 31)) in
-    ap (λ (p : ℕ). effect (decode h m) (searchFrom (capacity size) (liveAt (decode h m)) p) []) q
+    ap (λ (p : ℕ). searchFrom (capacity size) (liveAt (decode h m)) p) (sym q)

@@ -3,12 +3,11 @@ use mathlib.Core.Path.{_≡_, refl, sym, ap, _∙_}
 use mathlib.Core.Bool.{true, cond}
 use mathlib.Core.Logic.{⊎-elim}
 use mathlib.Core.Option.{Option, none, some}
-use mathlib.Core.List.{List, [], _∷_}
-use Prim.Native.Nat.{ℕ, _≤_, _<_}
+use mathlib.Core.List.{[], _∷_}
+use Prim.Native.Nat.{ℕ, _<_}
 use native.Mathlib.Omega.{arith}
 use lib.Dec.{ltb}
-use lib.ListN.{length}
-use borrow.Author.Tests.{eq-eqb, le-leb, ltb-true}
+use borrow.Author.Tests.{eq-eqb, ltb-true}
 use denote.Enum.Declared.{tagOf}
 use types.Run.{OneOf}
 use Rattle.words.specs.Cases.{bool}
@@ -16,22 +15,20 @@ use Rattle.window.specs.declared.AdaptiveReceiverPacketWindow.{AdaptiveReceiver
 use Rattle.window.proofs.answers.Answer as enum
 use Rattle.window.specs.declared.answers.Answer.{Answer}
 use Rattle.window.specs.declared.answers.Answer.the-variants.{Done, New, Replaced, Absent, Found, Pair, Released, Refused}
-use Rattle.window.specs.declared.answers.Step.{Step}
-use Rattle.window.specs.Memory.{Memory, memory, position}
-use Rattle.window.specs.Refusals.{refusalNumber, fits}
+use Rattle.window.specs.Memory.{Memory, position}
+use Rattle.window.specs.Refusals.{refusalNumber}
 use Rattle.model.specs.Calls.{get, stranger, absent, found, pair, refused}
 use Rattle.model.specs.Calls as model
 use Rattle.model.specs.Table as table
-use Rattle.model.specs.Table.{rangeCount, valueIf, sequenceOf}
+use Rattle.model.specs.Table.{rangeCount, valueIf, sequenceOf, pairAnswer, strangerIn}
 use Rattle.model.specs.Window.{decode, capacityOf, liveAt}
-use Rattle.model.specs.Steps.{effect, windowStep, windowDoes, pairAnswer, strangerIn}
-use Rattle.model.specs.Contract.{Meets}
+use Rattle.model.specs.Steps.{windowAnswer}
 use Rattle.model.specs.Sound.{Sound}
 use Rattle.pages.specs.LiveLaws.{live-in-place}
 use Rattle.searches.specs.declared.walk.Found as walk
 use Rattle.searches.specs.declared.walk.Found.the-variants as walked
-use Rattle.calls.specs.Answers.{answerOf, stateOf, leftOf}
-use Rattle.calls.specs.FitLaws.{fit-refusal}
+use Rattle.calls.specs.Answers.{answerOf, stateOf}
+use Rattle.calls.specs.Contracts.{Tells}
 use Rattle.reads.specs.Contracts.{strangerPosition, strangerInRange, FindsInRange, GivesPair, GivesFound}
 use Rattle.reads.proofs.Rounding.{not-absent}
 use Rattle.reads.proofs.Strangers.{sequenceIn, not-found, none-unsound, place-is}
@@ -56,22 +53,18 @@ other-tag (Refused why) n k e = not-found (refused (refusalNumber why)) n refl e
 
 -- ---- the pair, by what get gives for its sequence
 
-module _ (h : AdaptiveReceiverPacketWindow) (ss vs pages blocks : List ℕ) (s : ℕ) (r : Step)
-    (t : Meets (get s) (stateOf h (memory ss vs pages blocks)) [] (leftOf r (memory ss vs pages blocks) []))
-    (fit : fits h (length ss) (length vs) (length pages) (length blocks) ≡ true) where
-  get-gives : Sound (decode h (memory ss vs pages blocks)) → (e : table.Pair) → liveAt (decode h (memory ss vs pages blocks)) (position (h .«window_size») s) ≡ some e → e .sequence ≡ s
-      → answerOf (r .answer .answer) ≡ found (e .value)
-  unfolding windowDoes decode
-  get-gives ok e z q =
-      t .sound (fit-refusal (stateOf h (memory ss vs pages blocks)) (get s) fit) ok .answer ∙ ap (valueIf s) z ∙ rw (eq-eqb (e .sequence) s q) refl
+module _ (h : AdaptiveReceiverPacketWindow) (m : Memory) (s : ℕ) (a : Answer) (t : Tells (get s) (stateOf h m) a) where
+  get-gives : Sound (decode h m) → (e : table.Pair) → liveAt (decode h m) (position (h .«window_size») s) ≡ some e → e .sequence ≡ s → answerOf a ≡ found (e .value)
+  unfolding decode
+  get-gives ok e z q = t ok ∙ ap (valueIf s) z ∙ rw (eq-eqb (e .sequence) s q) refl
 
-  pub gives-pair : (x : ℕ) → r .answer .answer ≡ Found x → GivesPair h (memory ss vs pages blocks) s (pair s x 0)
+  pub gives-pair : (x : ℕ) → a ≡ Found x → GivesPair h m s (pair s x 0)
   gives-pair x k = record {
     gives = λ ok e z q. λ i. pair (sym q i) (ap sequenceIn (sym (ap answerOf k) ∙ get-gives ok e z q) i) 0;
   }
 
-  pub gives-none : OneOf (0 ∷ 1 ∷ 2 ∷ 3 ∷ 5 ∷ 6 ∷ 7 ∷ []) (tagOf enum.the-type (r .answer .answer)) → GivesPair h (memory ss vs pages blocks) s (refused 7)
-  gives-none k = record { gives = λ ok e z q. absurd (other-tag (r .answer .answer) (e .value) k (get-gives ok e z q)) }
+  pub gives-none : OneOf (0 ∷ 1 ∷ 2 ∷ 3 ∷ 5 ∷ 6 ∷ 7 ∷ []) (tagOf enum.the-type a) → GivesPair h m s (refused 7)
+  gives-none k = record { gives = λ ok e z q. absurd (other-tag a (e .value) k (get-gives ok e z q)) }
 
 -- ---- the answer, by what the search found
 
@@ -115,16 +108,10 @@ module _ (h : AdaptiveReceiverPacketWindow) (m : Memory) where
 
 -- ---- the call
 
-module _ (h : AdaptiveReceiverPacketWindow) (ss vs pages blocks : List ℕ) (first last count : ℕ) (is : count ≡ rangeCount first last) where
-  pub stranger-step : count ≤ h .«window_size»
-      → windowStep (decode h (memory ss vs pages blocks)) (stranger first last) ≡ effect (decode h (memory ss vs pages blocks)) (strangerIn (decode h (memory ss vs pages blocks)) first last) []
-  unfolding windowDoes decode
-  stranger-step l = rw (le-leb (rangeCount first last) (h .«window_size») (omega (arith, is)))
-
-  pub stranger-is : (r : walk.Found) (a : model.Answer) → FindsInRange h ss pages blocks first count r → GivesFound h (memory ss vs pages blocks) r a
-      → Sound (decode h (memory ss vs pages blocks)) → a ≡ strangerIn (decode h (memory ss vs pages blocks)) first last
-  unfolding strangerIn strangerInRange strangerPosition
-  stranger-is r a f g ok =
-      let v = decode h (memory ss vs pages blocks) in
-      g .gives ok (strangerPosition v first count) (f .gives vs ok)
-      ∙ ap (λ (n : ℕ). cond (ltb (strangerPosition v first n) (capacityOf v)) (pairAnswer (liveAt v (strangerPosition v first n))) absent) is
+pub stranger-is : (h : AdaptiveReceiverPacketWindow) (m : Memory) (first last count : ℕ) → count ≡ rangeCount first last → (r : walk.Found) (a : model.Answer)
+    → FindsInRange h (m .sequences) (m .pages) (m .blocks) first count r → GivesFound h m r a → Sound (decode h m) → a ≡ windowAnswer (decode h m) (stranger first last)
+unfolding strangerIn strangerInRange strangerPosition
+stranger-is h m first last count is r a f g ok =
+    let v = decode h m in
+    g .gives ok (strangerPosition v first count) (f .gives (m .values) ok)
+    ∙ ap (λ (n : ℕ). cond (ltb (strangerPosition v first n) (capacityOf v)) (pairAnswer (liveAt v (strangerPosition v first n))) absent) is

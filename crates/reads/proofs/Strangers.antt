@@ -17,9 +17,8 @@ use Rattle.words.specs.FirstLaws.{first-is, first-eq}
 use Rattle.window.specs.declared.AdaptiveReceiverPacketWindow.{AdaptiveReceiverPacketWindow}
 use Rattle.window.specs.Memory.{memory, capacity, position}
 use Rattle.model.specs.Calls.{Answer, done, new, replaced, absent, found, pair, released, refused}
-use Rattle.model.specs.Table.{Pair, pairOf, rangeCount, holds, sequenceOf}
+use Rattle.model.specs.Table.{Pair, pairOf, rangeCount, holds, sequenceOf, isStranger}
 use Rattle.model.specs.Window.{Window, decode, liveAt}
-use Rattle.model.specs.Steps.{isStranger}
 use Rattle.model.specs.Sound.{Sound}
 use Rattle.pages.specs.LiveLaws.{InPlace, live-in-place}
 use Rattle.searches.proofs.walk.Found as enum

@@ -10,9 +10,8 @@ use Rattle.words.specs.First.{firstFrom, firstRound}
 use Rattle.window.specs.declared.AdaptiveReceiverPacketWindow.{AdaptiveReceiverPacketWindow}
 use Rattle.window.specs.Memory.{Memory, memory, position}
 use Rattle.model.specs.Calls.{Answer, absent}
-use Rattle.model.specs.Table.{Pair, covers, sequenceOf, searchFrom}
+use Rattle.model.specs.Table.{Pair, covers, sequenceOf, searchFrom, isStranger, pairAnswer}
 use Rattle.model.specs.Window.{Window, decode, sizeOf, liveAt, isReached, capacityOf}
-use Rattle.model.specs.Steps.{isStranger, pairAnswer}
 use Rattle.model.specs.Sound.{Sound}
 use Rattle.searches.specs.declared.walk.Found.{Found}
 use Rattle.searches.specs.Contracts.{foundAnswer}

@@ -1,9 +1,12 @@
 // The calls that read: get, successor_after, first_from and iter; stranger.rt has stranger. Each takes the header, the lent lists and
-// numbers, and gives the header back as it is.
+// numbers, and gives the header back as it is: its refusals, or else the answer of one inner function.
 pub mod cells;
 pub mod round;
 pub mod stranger;
 
+use calls::admits::Arguments;
+use calls::admits::NO_LIST;
+use calls::admits::admits;
 use calls::reachable;
 use calls::read_answer;
 use calls::refuse;
@@ -11,19 +14,46 @@ use calls::reply;
 use cells::next_cell;
 use pages::page_cells;
 use pages::page_words;
-use round::find_round;
+use round::find_after;
+use round::find_from;
 use window::AdaptiveReceiverPacketWindow;
 use window::answers::Answer;
 use window::answers::Step;
 use window::memory::capacity;
 use window::memory::position;
-use window::refusals::Refusal;
-use window::refusals::fits;
-ghost use mathlib.Core.List.{[]};
-ghost use Rattle.window.specs.Memory.{memory};
-ghost use Rattle.model.specs.Calls.{get as getOf, successor-after, first-from, iter as iterOf};
-ghost use Rattle.model.specs.Contract.{Meets};
-ghost use Rattle.calls.specs.Answers.{stateOf, leftOf};
+use window::refusals::Verdict;
+ghost use Rattle.window.specs.Lent.{ListsFit};
+ghost use Rattle.model.specs.Calls.{get as getOf, successor-after, first-from, iter as iterOf, ask};
+ghost use Rattle.calls.specs.Answers.{MeetsBy};
+ghost use Rattle.calls.specs.Contracts.{TellsBy};
+
+// The value of the sequence.
+pub fn value_of(
+    w: AdaptiveReceiverPacketWindow,
+    sequences: &[u32],
+    values: &[u32],
+    pages: &[u64],
+    blocks: &[u64],
+    sequence: u32,
+) -> Answer
+    requires { ⌜ ListsFit w sequences values pages blocks ⌝ }
+    ensures { λ r. ⌜ TellsBy (getOf sequence) w sequences values pages blocks r ⌝ }
+{
+    let n = w.n as usize;
+    let page = position(w.window_size, sequence) / 64;
+    if reachable(w, blocks, page) == 0 {
+        return Answer::Absent;
+    }
+    let words = page_words(pages, page);
+    let read = pages::find::get(
+        page_cells(sequences, page),
+        page_cells(values, page),
+        words,
+        n,
+        sequence,
+    );
+    read_answer(read)
+}
 
 // The value of the sequence.
 pub fn get(
@@ -34,26 +64,21 @@ pub fn get(
     blocks: &[u64],
     sequence: u32,
 ) -> Step
-    ensures { λ r. ⌜ Meets (getOf sequence) (stateOf w (memory (now (sequences .entry)) (now (values .entry)) (now (pages .entry)) (now (blocks .entry)))) []
-        (leftOf r (memory (now (sequences .entry)) (now (values .entry)) (now (pages .entry)) (now (blocks .entry))) []) ⌝ }
+    ensures { λ r. ⌜ MeetsBy (ask (getOf sequence)) w sequences values pages blocks r ⌝ }
 {
-    if !fits(w, sequences.len(), values.len(), pages.len(), blocks.len()) {
-        return refuse(w, Refusal::ShortMemory);
-    }
-    let n = w.n as usize;
-    let page = position(w.window_size, sequence) / 64;
-    if reachable(w, blocks, page) == 0 {
-        return reply(w, Answer::Absent);
-    }
-    let words = page_words(pages, page);
-    let read = pages::find::get(
-        page_cells(sequences, page),
-        page_cells(values, page),
-        words,
-        n,
-        sequence,
+    let verdict = admits(
+        w,
+        sequences.len(),
+        values.len(),
+        pages.len(),
+        blocks.len(),
+        NO_LIST,
+        Arguments::Sequence(sequence),
     );
-    reply(w, read_answer(read))
+    if let Verdict::Refuse(why) = verdict {
+        return refuse(w, why);
+    }
+    reply(w, value_of(w, sequences, values, pages, blocks, sequence))
 }
 
 // The sequence of the first live value after the sequence's position, round to its own, last of all.
@@ -65,13 +90,21 @@ pub fn successor_after(
     blocks: &[u64],
     sequence: u32,
 ) -> Step
-    ensures { λ r. ⌜ Meets (successor-after sequence) (stateOf w (memory (now (sequences .entry)) (now (values .entry)) (now (pages .entry)) (now (blocks .entry)))) []
-        (leftOf r (memory (now (sequences .entry)) (now (values .entry)) (now (pages .entry)) (now (blocks .entry))) []) ⌝ }
+    ensures { λ r. ⌜ MeetsBy (ask (successor-after sequence)) w sequences values pages blocks r ⌝ }
 {
-    if !fits(w, sequences.len(), values.len(), pages.len(), blocks.len()) {
-        return refuse(w, Refusal::ShortMemory);
+    let verdict = admits(
+        w,
+        sequences.len(),
+        values.len(),
+        pages.len(),
+        blocks.len(),
+        NO_LIST,
+        Arguments::Sequence(sequence),
+    );
+    if let Verdict::Refuse(why) = verdict {
+        return refuse(w, why);
     }
-    reply(w, find_round(w, sequences, pages, blocks, sequence))
+    reply(w, find_after(w, sequences, values, pages, blocks, sequence))
 }
 
 // The sequence of the first live value from the sequence's own position on, then round.
@@ -83,14 +116,46 @@ pub fn first_from(
     blocks: &[u64],
     sequence: u32,
 ) -> Step
-    ensures { λ r. ⌜ Meets (first-from sequence) (stateOf w (memory (now (sequences .entry)) (now (values .entry)) (now (pages .entry)) (now (blocks .entry)))) []
-        (leftOf r (memory (now (sequences .entry)) (now (values .entry)) (now (pages .entry)) (now (blocks .entry))) []) ⌝ }
+    ensures { λ r. ⌜ MeetsBy (ask (first-from sequence)) w sequences values pages blocks r ⌝ }
 {
-    if !fits(w, sequences.len(), values.len(), pages.len(), blocks.len()) {
-        return refuse(w, Refusal::ShortMemory);
+    let verdict = admits(
+        w,
+        sequences.len(),
+        values.len(),
+        pages.len(),
+        blocks.len(),
+        NO_LIST,
+        Arguments::Sequence(sequence),
+    );
+    if let Verdict::Refuse(why) = verdict {
+        return refuse(w, why);
     }
-    let before = std::num::wrapping_sub_u32(sequence, 1) % 0x8000_0000;
-    reply(w, find_round(w, sequences, pages, blocks, before))
+    reply(w, find_from(w, sequences, values, pages, blocks, sequence))
+}
+
+// The next reachable pair from a cell number on, with the cell after it; done if there is none.
+fn next_pair(
+    w: AdaptiveReceiverPacketWindow,
+    sequences: &[u32],
+    values: &[u32],
+    pages: &[u64],
+    blocks: &[u64],
+    cell: u32,
+) -> Answer
+    requires { ⌜ ListsFit w sequences values pages blocks ⌝ }
+    ensures { λ r. ⌜ TellsBy (iterOf cell) w sequences values pages blocks r ⌝ }
+{
+    let start = cell as usize;
+    let end = capacity(w.window_size);
+    if end <= start {
+        return Answer::Done;
+    }
+    let next = next_cell(w, pages, blocks, start, end);
+    if end <= next {
+        return Answer::Done;
+    }
+    let after = (next + 1) as u32;
+    Answer::Pair(sequences[next], values[next], after)
 }
 
 // From a cell number, the next reachable pair in page order, then cell order, with the cell after it; done if there is none.
@@ -102,21 +167,19 @@ pub fn iter(
     blocks: &[u64],
     cell: u32,
 ) -> Step
-    ensures { λ r. ⌜ Meets (iterOf cell) (stateOf w (memory (now (sequences .entry)) (now (values .entry)) (now (pages .entry)) (now (blocks .entry)))) []
-        (leftOf r (memory (now (sequences .entry)) (now (values .entry)) (now (pages .entry)) (now (blocks .entry))) []) ⌝ }
+    ensures { λ r. ⌜ MeetsBy (ask (iterOf cell)) w sequences values pages blocks r ⌝ }
 {
-    if !fits(w, sequences.len(), values.len(), pages.len(), blocks.len()) {
-        return refuse(w, Refusal::ShortMemory);
+    let verdict = admits(
+        w,
+        sequences.len(),
+        values.len(),
+        pages.len(),
+        blocks.len(),
+        NO_LIST,
+        Arguments::Nothing,
+    );
+    if let Verdict::Refuse(why) = verdict {
+        return refuse(w, why);
     }
-    let start = cell as usize;
-    let end = capacity(w.window_size);
-    if end <= start {
-        return reply(w, Answer::Done);
-    }
-    let next = next_cell(w, pages, blocks, start, end);
-    if end <= next {
-        return reply(w, Answer::Done);
-    }
-    let after = (next + 1) as u32;
-    reply(w, Answer::Pair(sequences[next], values[next], after))
+    reply(w, next_pair(w, sequences, values, pages, blocks, cell))
 }

@@ -1,5 +1,8 @@
 // stranger: a live pair at a position of a range whose sequence is none of the range's.
-use crate::get;
+use crate::value_of;
+use calls::admits::Arguments;
+use calls::admits::NO_LIST;
+use calls::admits::admits;
 use calls::range_count;
 use calls::refuse;
 use calls::reply;
@@ -11,20 +14,17 @@ use window::answers::Step;
 use window::memory::capacity;
 use window::memory::position;
 use window::refusals::Refusal;
-use window::refusals::fits;
+use window::refusals::Verdict;
 ghost use mathlib.Core.Path.{_≡_};
-ghost use mathlib.Core.Bool.{true};
-ghost use mathlib.Core.List.{[]};
 ghost use mathlib.Core.Option.{some};
 ghost use Prim.Native.Nat.{_*_, _<_, _≤_};
 ghost use lib.ListN.{length};
-ghost use Rattle.window.specs.Memory.{memory, capacity as capacityOf, pageCount, blockCount};
-ghost use Rattle.window.specs.Refusals.{fits as fitsOf};
-ghost use Rattle.model.specs.Calls.{stranger as strangerOf};
-ghost use Rattle.model.specs.Table.{pairOf};
-ghost use Rattle.model.specs.Steps.{isStranger};
-ghost use Rattle.model.specs.Contract.{Meets};
-ghost use Rattle.calls.specs.Answers.{answerOf, stateOf, leftOf};
+ghost use Rattle.window.specs.Memory.{capacity as capacityOf, pageCount, blockCount};
+ghost use Rattle.window.specs.Lent.{foundIn, ListsFit};
+ghost use Rattle.model.specs.Calls.{stranger as strangerOf, ask};
+ghost use Rattle.model.specs.Table.{pairOf, rangeCount, isStranger};
+ghost use Rattle.calls.specs.Answers.{answerOf, MeetsBy};
+ghost use Rattle.calls.specs.Contracts.{TellsBy};
 ghost use Rattle.reads.specs.Contracts.{FindsStranger, FindsInRange, GivesPair, GivesFound};
 
 // Whether a sequence is none of the `count` from `first` on: its distance from first is count or more, or its top bit is set.
@@ -108,12 +108,10 @@ fn pair_answer(
     blocks: &[u64],
     sequence: u32,
 ) -> Answer
-    requires { ⌜ fitsOf w (length (now sequences)) (length (now values)) (length (now pages)) (length (now blocks)) ≡ true ⌝ }
-    ensures { λ r. ⌜ GivesPair w (memory (now (sequences .entry)) (now (values .entry)) (now (pages .entry)) (now (blocks .entry))) sequence (answerOf r) ⌝ }
+    requires { ⌜ ListsFit w sequences values pages blocks ⌝ }
+    ensures { λ r. ⌜ GivesPair w (foundIn sequences values pages blocks) sequence (answerOf r) ⌝ }
 {
-    let step = get(w, sequences, values, pages, blocks, sequence);
-    let outcome = step.answer;
-    let answer = outcome.answer;
+    let answer = value_of(w, sequences, values, pages, blocks, sequence);
     if let Answer::Found(value) = answer {
         return Answer::Pair(sequence, value, 0);
     }
@@ -129,14 +127,32 @@ fn stranger_answer(
     blocks: &[u64],
     found: Found,
 ) -> Answer
-    requires { ⌜ fitsOf w (length (now sequences)) (length (now values)) (length (now pages)) (length (now blocks)) ≡ true ⌝ }
-    ensures { λ r. ⌜ GivesFound w (memory (now (sequences .entry)) (now (values .entry)) (now (pages .entry)) (now (blocks .entry))) found (answerOf r) ⌝ }
+    requires { ⌜ ListsFit w sequences values pages blocks ⌝ }
+    ensures { λ r. ⌜ GivesFound w (foundIn sequences values pages blocks) found (answerOf r) ⌝ }
 {
     match found {
         Found::At(sequence) => pair_answer(w, sequences, values, pages, blocks, sequence),
         Found::Nothing => Answer::Absent,
         Found::Unsound => Answer::Refused(Refusal::Unsound),
     }
+}
+
+// The first stranger of a range that is not refused.
+fn first_stranger(
+    w: AdaptiveReceiverPacketWindow,
+    sequences: &[u32],
+    values: &[u32],
+    pages: &[u64],
+    blocks: &[u64],
+    first: u32,
+    last: u32,
+) -> Answer
+    requires { ⌜ ListsFit w sequences values pages blocks × (rangeCount first last ≤ w .«window_size») ⌝ }
+    ensures { λ r. ⌜ TellsBy (strangerOf first last) w sequences values pages blocks r ⌝ }
+{
+    let count = range_count(first, last);
+    let found = find_in_range(w, sequences, pages, blocks, first, count);
+    stranger_answer(w, sequences, values, pages, blocks, found)
 }
 
 // Some live pair at a position of first..last whose sequence is none of theirs: the first by position from first's, round the capacity.
@@ -149,19 +165,19 @@ pub fn stranger(
     first: u32,
     last: u32,
 ) -> Step
-    ensures { λ r. ⌜ Meets (strangerOf first last) (stateOf w (memory (now (sequences .entry)) (now (values .entry)) (now (pages .entry)) (now (blocks .entry)))) []
-        (leftOf r (memory (now (sequences .entry)) (now (values .entry)) (now (pages .entry)) (now (blocks .entry))) []) ⌝ }
+    ensures { λ r. ⌜ MeetsBy (ask (strangerOf first last)) w sequences values pages blocks r ⌝ }
 {
-    if !fits(w, sequences.len(), values.len(), pages.len(), blocks.len()) {
-        return refuse(w, Refusal::ShortMemory);
-    }
-    let count = range_count(first, last);
-    if w.window_size < count {
-        return refuse(w, Refusal::RangeCount);
-    }
-    let found = find_in_range(w, sequences, pages, blocks, first, count);
-    reply(
+    let verdict = admits(
         w,
-        stranger_answer(w, sequences, values, pages, blocks, found),
-    )
+        sequences.len(),
+        values.len(),
+        pages.len(),
+        blocks.len(),
+        NO_LIST,
+        Arguments::Range(first, last),
+    );
+    if let Verdict::Refuse(why) = verdict {
+        return refuse(w, why);
+    }
+    reply(w, first_stranger(w, sequences, values, pages, blocks, first, last))
 }

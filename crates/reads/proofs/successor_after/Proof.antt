@@ -1,53 +1,64 @@
--- What find_round gives is the call's answer (after-step). Assumes nothing.
-use mathlib.Core.Path.{refl, _∙_}
-use native.Mathlib.Omega.{arith}
+-- Refused as admits says, or else the answer of find_after. Assumes nothing.
+use mathlib.Core.Bool.{false≢true}
 use denote.Ref.{now}
-use lib.ListN.{length}
-use Rattle.window.specs.Refusals.{Fits}
-use Rattle.window.specs.Memory.{memory}
-use Rattle.model.specs.Calls.{successor-after}
-use Rattle.calls.specs.FitLaws as FitLaws
-use Rattle.calls.specs.ReplyLaws.{short-meets, reply-meets}
-use Rattle.reads.proofs.Rounding.{after-step}
 use borrow.Author.Needs.{needs}
+use Rattle.window.specs.Memory.{memory}
+use Rattle.window.specs.Lent.{ListsFit}
+use Rattle.model.specs.Calls.{successor-after}
+use Rattle.model.specs.Contract.{State}
+use Rattle.calls.specs.Answers.{stateOf}
+use Rattle.calls.specs.MeetsLaws.{asked-refusal, asked-fits, asked-meets}
 use Rattle.reads.proofs.successor_after.Statement.{statement}
 use Rattle.reads.proofs.successor_after.Tie as tie
 
-fits-requires : tie.Need-fits-requires
-fits-requires c κs = search needs
+admits-requires : tie.Need-admits-requires
+admits-requires c κs = search needs
+
+enum-known-verdict : tie.Need-enum-known-verdict
+enum-known-verdict c = search needs
 
 refuse-requires : tie.Need-refuse-requires
 refuse-requires c κs = search needs
 
+-- the state that the call finds
+abbrev found : tie.After-admits → State
+found a = let s = a .before .before .before .before .before .args in stateOf (s .w) (memory (now (s .sequences)) (now (s .values)) (now (s .pages)) (now (s .blocks)))
+
 returns : tie.Need-returns
 returns c =
-    let s = c .before .before .before .before .before .before .before .args in
-    short-meets (successor-after (s .sequence)) (s .w) _ _ _ _ _ (c .before .before .fits2 .ensures) _ _ (c .before .if1 .taken) (c .refuse .ensures)
+    let a : tie.After-admits = c .before .before .before .before in
+    let s = a .before .before .before .before .before .args in
+    asked-refusal (successor-after (s .sequence)) (found a) (a .admits .result) (a .admits .ensures) _ _ (c .before .before .verdict .given .1) (c .refuse .ensures)
 
--- refusal 6 does not apply
-fit : (c : tie.Else1) → let s = c .before .before .before .before .before .before .args in Fits (s .w) (length (now (s .sequences))) (length (now (s .values))) (length (now (s .pages))) (length (now (s .blocks)))
-fit c = FitLaws.fit _ _ _ _ _ _ (c .before .fits2 .ensures) (c .if1 .left)
+enum-told : tie.Need-enum-told
+enum-told c = search needs
 
-find-round-requires : tie.Need-find-round-requires
-find-round-requires c κs = let f = fit (c) in ((f .within .size-high, omega (arith, f .within .n-high)), (f .long .sequences-long, f .long .pages-long, f .long .blocks-long))
+-- past the refusals
+fit : (m : tie.At-match-keys2) → let s = m .before .before .before .before .before .before .args in ListsFit (s .w) (s .sequences) (s .values) (s .pages) (s .blocks)
+fit m = let s = m .before .before .before .before .before .before .args in asked-fits (successor-after (s .sequence)) (found (m .before)) (m .before .admits .result) (m .before .admits .ensures) (m .match .keys2)
+
+find-after-requires : tie.Need-find-after-requires
+find-after-requires c κs = fit (c .before)
 
 reply-requires : tie.Need-reply-requires
 reply-requires c κs = search needs
 
 returns-2 : tie.Need-returns-2
 returns-2 c =
-    let s = c .before .before .before .before .before .before .before .before .args in
-    reply-meets (successor-after (s .sequence)) (s .w) _ _ _ _ _ (c .before .before .before .fits2 .ensures) _ _ _ (c .before .before .if1 .left) refl refl (c .reply .ensures)
-    (after-step (s .w) (memory (now (s .sequences)) (now (s .values)) (now (s .pages)) (now (s .blocks))) (s .sequence))
-    (λ ok. c .before .find-round .ensures .gives (now (s .values)) ok)
+    let m : tie.At-match-keys2 = c .before .before .before in
+    let s = m .before .before .before .before .before .before .args in
+    asked-meets (successor-after (s .sequence)) (found (m .before)) (m .before .admits .result) (m .before .admits .ensures) (m .match .keys2) _ _ (c .reply .ensures) (λ q. absurd (false≢true q))
+    (c .before .find-after .ensures)
 
 pub successor-after-spec : {M : Type 1} → statement M
 successor-after-spec =
     tie.close
     (tie.spec
-    fits-requires
+    admits-requires
+    enum-known-verdict
     refuse-requires
     returns
-    find-round-requires
+    enum-told
+    find-after-requires
     reply-requires
     returns-2)

@@ -1,81 +1,70 @@
--- Refusals 6 and 5, and then what the search over the range found (stranger-is). Assumes nothing.
-use mathlib.Core.Path.{refl, sym, _∙_}
-use native.Mathlib.Omega.{arith}
+-- Refused as admits says, or else the answer of first_stranger. Assumes nothing.
+use mathlib.Core.Bool.{false≢true}
 use denote.Ref.{now}
-use lib.ListN.{length}
-use borrow.Author.Tests.{not-false}
-use Rattle.window.specs.declared.refusals.Refusal.the-variants.{RangeCount}
-use Rattle.window.specs.MemoryLaws.{size-le}
-use Rattle.window.specs.Refusals.{Fits}
-use Rattle.model.specs.Calls.{stranger}
-use Rattle.calls.specs.FitLaws as FitLaws
-use Rattle.calls.specs.RangeLaws.{count-refused, count-taken, count-some}
-use Rattle.calls.specs.ReplyLaws.{short-meets, argument-meets, reply-meets}
-use Rattle.reads.proofs.StrangerAnswer.{stranger-step, stranger-is}
 use borrow.Author.Needs.{needs}
+use Rattle.window.specs.Memory.{memory}
+use Rattle.window.specs.Lent.{ListsFit}
+use Rattle.model.specs.Calls.{stranger}
+use Rattle.model.specs.Contract.{State}
+use Rattle.calls.specs.Answers.{stateOf}
+use Rattle.calls.specs.MeetsLaws.{asked-refusal, asked-fits, asked-meets}
+use Rattle.calls.specs.MeetsLaws.{asked-arguments}
+use Rattle.calls.specs.RangeLaws.{count-taken}
+use Rattle.model.specs.Steps.{knownBy}
 use Rattle.reads.proofs.stranger.stranger.Statement.{statement}
 use Rattle.reads.proofs.stranger.stranger.Tie as tie
 
-fits-requires : tie.Need-fits-requires
-fits-requires c κs = search needs
+admits-requires : tie.Need-admits-requires
+admits-requires c κs = search needs
+
+enum-known-verdict : tie.Need-enum-known-verdict
+enum-known-verdict c = search needs
 
 refuse-requires : tie.Need-refuse-requires
 refuse-requires c κs = search needs
 
+-- the state that the call finds
+abbrev found : tie.After-admits → State
+found a = let s = a .before .before .before .before .before .args in stateOf (s .w) (memory (now (s .sequences)) (now (s .values)) (now (s .pages)) (now (s .blocks)))
+
 returns : tie.Need-returns
 returns c =
-    let s = c .before .before .before .before .before .before .before .args in
-    short-meets (stranger (s .first) (s .last)) (s .w) _ _ _ _ _ (c .before .before .fits2 .ensures) _ _ (c .before .if1 .taken) (c .refuse .ensures)
+    let a : tie.After-admits = c .before .before .before .before in
+    let s = a .before .before .before .before .before .args in
+    asked-refusal (stranger (s .first) (s .last)) (found a) (a .admits .result) (a .admits .ensures) _ _ (c .before .before .verdict .given .1) (c .refuse .ensures)
 
--- refusal 6 does not apply
-fit : (c : tie.Else1) → let s = c .before .before .before .before .before .before .args in Fits (s .w) (length (now (s .sequences))) (length (now (s .values))) (length (now (s .pages))) (length (now (s .blocks)))
-fit c = FitLaws.fit _ _ _ _ _ _ (c .before .fits2 .ensures) (c .if1 .left)
+enum-told : tie.Need-enum-told
+enum-told c = search needs
 
-range-count-requires : tie.Need-range-count-requires
-range-count-requires c κs = search needs
+-- past the refusals
+fit : (m : tie.At-match-keys2) → let s = m .before .before .before .before .before .before .args in ListsFit (s .w) (s .sequences) (s .values) (s .pages) (s .blocks)
+fit m = let s = m .before .before .before .before .before .before .args in asked-fits (stranger (s .first) (s .last)) (found (m .before)) (m .before .admits .result) (m .before .admits .ensures) (m .match .keys2)
 
-refuse-requires-2 : tie.Need-refuse-requires-2
-refuse-requires-2 c κs = search needs
-
-returns-2 : tie.Need-returns-2
-returns-2 c =
-    let s = c .before .before .before .before .before .before .before .before .before .before .args in
-    argument-meets (stranger (s .first) (s .last)) (s .w) _ _ _ _ _ (c .before .before .before .before .before .fits2 .ensures) RangeCount _ _ (c .before .before .before .before .if1 .left)
-    (count-refused (s .first) (s .last) (s .w .«window_size») (omega (arith, c .before .before .before .range-count .ensures, c .before .if2 .taken))) (c .refuse2 .ensures)
-
-find-in-range-requires : tie.Need-find-in-range-requires
-find-in-range-requires c κs =
-    let s = c .before .before .before .before .before .before .before .before .before .args in
-    let f = fit (c .before .before .before) in
-    let k = c .before .before .range-count in
-    ((f .within .size-high, omega (arith, f .within .n-high), omega (arith, k .ensures, count-some (s .first) (s .last)), omega (arith, c .if2 .left, size-le (s .w .«window_size») (f .within .size-high))), (f .long .sequences-long, f .long .pages-long, f .long .blocks-long))
-
-stranger-answer-requires : tie.Need-stranger-answer-requires
-stranger-answer-requires c κs = sym (c .before .before .before .before .before .fits2 .ensures) ∙ not-false _ (c .before .before .before .before .if1 .left)
+first-stranger-requires : tie.Need-first-stranger-requires
+first-stranger-requires c κs = 
+    let m : tie.At-match-keys2 = c .before in
+    let s = m .before .before .before .before .before .before .args in
+    (fit m, count-taken (knownBy (s .w)) (s .first) (s .last) (asked-arguments (stranger (s .first) (s .last)) (found (m .before)) (m .before .admits .result) (m .before .admits .ensures) (m .match .keys2)))
 
 reply-requires : tie.Need-reply-requires
 reply-requires c κs = search needs
 
-returns-3 : tie.Need-returns-3
-returns-3 c =
-    let s = c .before .before .before .before .before .before .before .before .before .before .before .before .args in
-    let k = c .before .before .before .before .before .range-count in
-    reply-meets (stranger (s .first) (s .last)) (s .w) _ _ _ _ _ (c .before .before .before .before .before .before .before .fits2 .ensures) _ _ _ (c .before .before .before .before .before .before .if1 .left) refl
-    (count-taken (s .first) (s .last) (s .w .«window_size») (omega (arith, k .ensures, c .before .before .before .if2 .left))) (c .reply .ensures)
-    (stranger-step (s .w) (now (s .sequences)) (now (s .values)) (now (s .pages)) (now (s .blocks)) (s .first) (s .last) (k .result) (k .ensures) (omega (arith, c .before .before .before .if2 .left)))
-    (stranger-is (s .w) (now (s .sequences)) (now (s .values)) (now (s .pages)) (now (s .blocks)) (s .first) (s .last) (k .result) (k .ensures) _ _ (c .before .before .find-in-range .ensures) (c .before .stranger-answer .ensures))
+returns-2 : tie.Need-returns-2
+returns-2 c =
+    let m : tie.At-match-keys2 = c .before .before .before in
+    let s = m .before .before .before .before .before .before .args in
+    asked-meets (stranger (s .first) (s .last)) (found (m .before)) (m .before .admits .result) (m .before .admits .ensures) (m .match .keys2) _ _ (c .reply .ensures) (λ q. absurd (false≢true q))
+    (c .before .first-stranger .ensures)
 
 pub stranger-spec : {M : Type 1} → statement M
 stranger-spec =
     tie.close
     (tie.spec
-    fits-requires
+    admits-requires
+    enum-known-verdict
     refuse-requires
     returns
-    range-count-requires
-    refuse-requires-2
-    returns-2
-    find-in-range-requires
-    stranger-answer-requires
+    enum-told
+    first-stranger-requires
     reply-requires
-    returns-3)
+    returns-2)
