@@ -8,10 +8,15 @@ use lib.Dec.{eqb}
 use lib.ListN.{length}
 use Rattle.words.specs.Word.{bitAt, count}
 use Rattle.window.specs.declared.AdaptiveReceiverPacketWindow.{AdaptiveReceiverPacketWindow}
+use Rattle.window.specs.declared.answers.Answer.{Answer}
 use Rattle.window.specs.Memory.{memory, pageCount, blockCount}
 use Rattle.model.specs.Window.{Window, decode}
 use Rattle.model.specs.Demand3.{one}
 use Rattle.model.specs.Sound.{Sound}
+use Rattle.model.specs.Calls.{check, refused}
+use Rattle.model.specs.Contract.{State, windowOf}
+use Rattle.calls.specs.Answers.{answerOf}
+use Rattle.calls.specs.Contracts.{Tells}
 use Rattle.pages.specs.declared.PageWords.{PageWords}
 use Rattle.masks.specs.declared.BlockWords.{BlockWords}
 use Rattle.masks.specs.Marks.{pageRetired}
@@ -51,17 +56,17 @@ pub record WordsLent (size : ℕ) (pages blocks : List ℕ) : Type 0 where
   pub blocks-long : 3 * blockCount size ≤ length blocks
 
 module _ (h : AdaptiveReceiverPacketWindow) (ss pages blocks : List ℕ) where
-  abbrev windowOf : List ℕ → Window
-  windowOf vs = decode h (memory ss vs pages blocks)
+  abbrev windowFor : List ℕ → Window
+  windowFor vs = decode h (memory ss vs pages blocks)
 
   pub record DecidesAt (g : ℕ) (r : Bool) : Type 0 where
-    pub is : (vs : List ℕ) → Decides (SoundAt (windowOf vs) g) r
+    pub is : (vs : List ℕ) → Decides (SoundAt (windowFor vs) g) r
 
   pub record DecidesPages (r : Bool) : Type 0 where
-    pub is : (vs : List ℕ) → Decides ((g : ℕ) → g < pageCount (h .«window_size») → SoundAt (windowOf vs) g) r
+    pub is : (vs : List ℕ) → Decides ((g : ℕ) → g < pageCount (h .«window_size») → SoundAt (windowFor vs) g) r
 
   pub record DecidesSound (r : Bool) : Type 0 where
-    pub is : (vs : List ℕ) → Decides (Sound (windowOf vs)) r
+    pub is : (vs : List ℕ) → Decides (Sound (windowFor vs)) r
 
 -- here the sequences are not looked at either
 module _ (h : AdaptiveReceiverPacketWindow) (pages blocks : List ℕ) where
@@ -76,3 +81,8 @@ module _ (h : AdaptiveReceiverPacketWindow) (pages blocks : List ℕ) where
 
   pub record DecidesHeader (r : Bool) : Type 0 where
     pub is : (ss vs : List ℕ) → Decides (SoundHeader (windowWith ss vs)) r
+
+-- "check: then 7, exactly if not sound"
+pub record Checks (u : State) (a : Answer) : Type 0 where
+  pub sound : Tells check u a
+  pub unsound : (Sound (windowOf u) → ⊥) → answerOf a ≡ refused 7

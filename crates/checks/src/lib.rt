@@ -7,6 +7,9 @@ pub mod page;
 pub mod values;
 
 use block::blocks_sound;
+use calls::admits::Arguments;
+use calls::admits::NO_LIST;
+use calls::admits::admits;
 use calls::refuse;
 use calls::reply;
 use header::header_sound;
@@ -15,16 +18,15 @@ use window::AdaptiveReceiverPacketWindow;
 use window::answers::Answer;
 use window::answers::Step;
 use window::refusals::Refusal;
-use window::refusals::fits;
-ghost use mathlib.Core.List.{[]};
+use window::refusals::Verdict;
 ghost use Prim.Native.Nat.{_≤_};
 ghost use lib.ListN.{length};
-ghost use Rattle.window.specs.Memory.{memory, capacity};
+ghost use Rattle.window.specs.Memory.{capacity};
+ghost use Rattle.window.specs.Lent.{foundIn, ListsFit};
 ghost use Rattle.window.specs.Refusals.{Within};
-ghost use Rattle.model.specs.Calls.{check as checkOf};
-ghost use Rattle.model.specs.Contract.{Meets};
-ghost use Rattle.calls.specs.Answers.{stateOf, leftOf};
-ghost use Rattle.checks.specs.Contracts.{WordsLent, DecidesSound};
+ghost use Rattle.model.specs.Calls.{check as checkOf, ask};
+ghost use Rattle.calls.specs.Answers.{stateOf, MeetsBy};
+ghost use Rattle.checks.specs.Contracts.{WordsLent, DecidesSound, Checks};
 
 // Whether the state is sound, by a fixed number of passes over the pages. The values are not looked at.
 fn sound(w: AdaptiveReceiverPacketWindow, sequences: &[u32], pages: &[u64], blocks: &[u64]) -> bool
@@ -41,6 +43,23 @@ fn sound(w: AdaptiveReceiverPacketWindow, sequences: &[u32], pages: &[u64], bloc
     pages_sound(w, sequences, pages, blocks)
 }
 
+// The answer of check.
+fn checked(
+    w: AdaptiveReceiverPacketWindow,
+    sequences: &[u32],
+    values: &[u32],
+    pages: &[u64],
+    blocks: &[u64],
+) -> Answer
+    requires { ⌜ ListsFit w sequences values pages blocks ⌝ }
+    ensures { λ r. ⌜ Checks (stateOf w (foundIn sequences values pages blocks)) r ⌝ }
+{
+    if !sound(w, sequences, pages, blocks) {
+        return Answer::Refused(Refusal::Unsound);
+    }
+    Answer::Done
+}
+
 // Done for a sound state, refusal 7 for any other.
 pub fn check(
     w: AdaptiveReceiverPacketWindow,
@@ -49,14 +68,19 @@ pub fn check(
     pages: &[u64],
     blocks: &[u64],
 ) -> Step
-    ensures { λ r. ⌜ Meets checkOf (stateOf w (memory (now (sequences .entry)) (now (values .entry)) (now (pages .entry)) (now (blocks .entry)))) []
-        (leftOf r (memory (now (sequences .entry)) (now (values .entry)) (now (pages .entry)) (now (blocks .entry))) []) ⌝ }
+    ensures { λ r. ⌜ MeetsBy (ask checkOf) w sequences values pages blocks r ⌝ }
 {
-    if !fits(w, sequences.len(), values.len(), pages.len(), blocks.len()) {
-        return refuse(w, Refusal::ShortMemory);
+    let verdict = admits(
+        w,
+        sequences.len(),
+        values.len(),
+        pages.len(),
+        blocks.len(),
+        NO_LIST,
+        Arguments::Nothing,
+    );
+    if let Verdict::Refuse(why) = verdict {
+        return refuse(w, why);
     }
-    if !sound(w, sequences, pages, blocks) {
-        return refuse(w, Refusal::Unsound);
-    }
-    reply(w, Answer::Done)
+    reply(w, checked(w, sequences, values, pages, blocks))
 }

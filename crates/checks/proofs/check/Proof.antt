@@ -1,57 +1,63 @@
--- Refusal 6, refusal 7 and done; the laws are in Checking. Assumes nothing.
-use Rattle.model.specs.Calls.{check}
-use Rattle.calls.specs.FitLaws.{fit}
-use Rattle.calls.specs.ReplyLaws.{short-meets}
-use Rattle.checks.proofs.Checking.{sound-answer, unsound-answer}
+-- Refused as admits says, or else the answer of checked. Assumes nothing.
+use denote.Ref.{now}
 use borrow.Author.Needs.{needs}
+use Rattle.window.specs.Memory.{memory}
+use Rattle.window.specs.Lent.{ListsFit}
+use Rattle.model.specs.Calls.{check}
+use Rattle.model.specs.Contract.{State}
+use Rattle.calls.specs.Answers.{stateOf}
+use Rattle.calls.specs.MeetsLaws.{asked-refusal, asked-fits, asked-meets}
 use Rattle.checks.proofs.check.Statement.{statement}
 use Rattle.checks.proofs.check.Tie as tie
 
-fits-requires : tie.Need-fits-requires
-fits-requires c κs = search needs
+admits-requires : tie.Need-admits-requires
+admits-requires c κs = search needs
+
+enum-known-verdict : tie.Need-enum-known-verdict
+enum-known-verdict c = search needs
 
 refuse-requires : tie.Need-refuse-requires
 refuse-requires c κs = search needs
 
+-- the state that the call finds
+abbrev found : tie.After-admits → State
+found a = let s = a .before .before .before .before .before .args in stateOf (s .w) (memory (now (s .sequences)) (now (s .values)) (now (s .pages)) (now (s .blocks)))
+
 returns : tie.Need-returns
 returns c =
-    let a = c .before .before .before .before .before .before .before .args in
-    short-meets check (a .w) _ _ _ _ _ (c .before .before .fits2 .ensures) _ _ (c .before .if1 .taken) (c .refuse .ensures)
+    let a : tie.After-admits = c .before .before .before .before in
+    let s = a .before .before .before .before .before .args in
+    asked-refusal check (found a) (a .admits .result) (a .admits .ensures) _ _ (c .before .before .verdict .given .1) (c .refuse .ensures)
 
-sound-requires : tie.Need-sound-requires
-sound-requires c κs =
-    let f = fit _ _ _ _ _ _ (c .before .fits2 .ensures) (c .if1 .left) in (
-      (f .within, f .long .sequences-long),
-      record { size-high = f .within .size-high; pages-long = f .long .pages-long; blocks-long = f .long .blocks-long },
-    )
+enum-told : tie.Need-enum-told
+enum-told c = search needs
 
-refuse-requires-2 : tie.Need-refuse-requires-2
-refuse-requires-2 c κs = search needs
+-- past the refusals
+fit : (m : tie.At-match-keys2) → let s = m .before .before .before .before .before .before .args in ListsFit (s .w) (s .sequences) (s .values) (s .pages) (s .blocks)
+fit m = let s = m .before .before .before .before .before .before .args in asked-fits check (found (m .before)) (m .before .admits .result) (m .before .admits .ensures) (m .match .keys2)
 
-returns-2 : tie.Need-returns-2
-returns-2 c =
-    let t = c .before .before in
-    unsound-answer _ _ _ _ _ _ (t .before .before .fits2 .ensures) (t .before .if1 .left) _ (t .sound .ensures)
-    _ (c .before .if2 .taken) (c .refuse2 .ensures)
+checked-requires : tie.Need-checked-requires
+checked-requires c κs = fit (c .before)
 
 reply-requires : tie.Need-reply-requires
 reply-requires c κs = search needs
 
-returns-3 : tie.Need-returns-3
-returns-3 c =
-    let t = c .before .before in
-    sound-answer _ _ _ _ _ _ (t .before .before .fits2 .ensures) (t .before .if1 .left) _ (t .sound .ensures)
-    _ (c .before .if2 .left) (c .reply .ensures)
+returns-2 : tie.Need-returns-2
+returns-2 c =
+    let m : tie.At-match-keys2 = c .before .before .before in
+    let s = m .before .before .before .before .before .before .args in
+    asked-meets check (found (m .before)) (m .before .admits .result) (m .before .admits .ensures) (m .match .keys2) _ _ (c .reply .ensures) (λ q. c .before .checked .ensures .unsound)
+    (c .before .checked .ensures .sound)
 
 pub check-spec : {M : Type 1} → statement M
 check-spec =
     tie.close
     (tie.spec
-    fits-requires
+    admits-requires
+    enum-known-verdict
     refuse-requires
     returns
-    sound-requires
-    refuse-requires-2
-    returns-2
+    enum-told
+    checked-requires
     reply-requires
-    returns-3)
+    returns-2)
