@@ -121,6 +121,29 @@ write-meets c u l r n e t = record {
   lengths = t .lengths;
 }
 
+-- ---- calls that fill a return list
+
+fills-admitted : (step : Window → Effect) (c : Call) (u : State) (l : List ℕ) (r : Left) → 384 ≤ length l → step (windowOf u) ≡ windowDoes (windowOf u) c → Fills step u l r → Admitted c u l r
+fills-admitted step c u l r long is t =
+    let full = stretch-length 0 (r .count) (r .list) (omega (arith, t .few, long, t .wrote .long)) in
+    record {
+      sound = λ ok. record {
+        answer = ap (λ (x : Effect). x .answer) (t .gives ok ∙ is);
+        window = ap (λ (x : Effect). x .after) (t .gives ok ∙ is);
+        returned = ap (λ (x : Effect). x .returned) (t .gives ok ∙ is);
+        count = sym full ∙ ap (λ (x : Effect). length (x .returned)) (t .gives ok ∙ is);
+      };
+      occupied = λ ok q. absurd (t .taken q);
+      none-with-4 = λ q. absurd (t .taken q);
+      past-list =
+          let z : 0 + r .count ≡ r .count = omega arith in
+          ap (λ (x : ℕ). drop x (r .list)) (sym z) ∙ t .wrote .past ∙ ap (λ (x : ℕ). drop x l) z;
+      long-list = t .wrote .long;
+      count-fits = omega (arith, t .few, long);
+      past-memory = t .past;
+      lengths = t .lengths;
+    }
+
 -- ---- what `admits` says
 
 both-6 : (a b : Bool) (rest : ℕ) → first 6 (a && b) rest ≡ first 6 b (first 6 a rest)
@@ -165,6 +188,11 @@ module _ (c : Call) (u : State) (places : ℕ) (listed : hasPlaces (roleOf c .li
     pub admitted-meets : (l : List ℕ) (r : Left) → roleOf c .checks ≡ false → Admitted c u l r → Meets c u l r
     admitted-meets l r other a = write-meets c u l r other none-applies a
 
+    -- a call that fills its return list
+    pub filled-meets : (l : List ℕ) (r : Left) → roleOf c .checks ≡ false → places ≡ length l
+        → (step : Window → Effect) → step (windowOf u) ≡ windowDoes (windowOf u) c → Fills step u l r → Meets c u l r
+    filled-meets l r other long step is t = admitted-meets l r other (fills-admitted step c u l r (omega (arith, admitted-places)) is t)
+
 -- ---- queries
 
 module _ (q : Query) (u : State) (t : Verdict)
@@ -184,26 +212,3 @@ module _ (q : Query) (u : State) (t : Verdict)
     asked-meets a r e unsound tells =
         subst (λ (x : Step). Meets (ask q) u [] (leftOf x (u .memory) [])) (sym e)
         (read-meets q u (answerOf a) unsound (none-applies (ask q) u 384 refl t test pass) tells)
-
--- ---- calls that fill a return list
-
-pub fills-admitted : (step : Window → Effect) (c : Call) (u : State) (l : List ℕ) (r : Left) → 384 ≤ length l → step (windowOf u) ≡ windowDoes (windowOf u) c → Fills step u l r → Admitted c u l r
-fills-admitted step c u l r long is t =
-    let full = stretch-length 0 (r .count) (r .list) (omega (arith, t .few, long, t .wrote .long)) in
-    record {
-      sound = λ ok. record {
-        answer = ap (λ (x : Effect). x .answer) (t .gives ok ∙ is);
-        window = ap (λ (x : Effect). x .after) (t .gives ok ∙ is);
-        returned = ap (λ (x : Effect). x .returned) (t .gives ok ∙ is);
-        count = sym full ∙ ap (λ (x : Effect). length (x .returned)) (t .gives ok ∙ is);
-      };
-      occupied = λ ok q. absurd (t .taken q);
-      none-with-4 = λ q. absurd (t .taken q);
-      past-list =
-          let z : 0 + r .count ≡ r .count = omega arith in
-          ap (λ (x : ℕ). drop x (r .list)) (sym z) ∙ t .wrote .past ∙ ap (λ (x : ℕ). drop x l) z;
-      long-list = t .wrote .long;
-      count-fits = omega (arith, t .few, long);
-      past-memory = t .past;
-      lengths = t .lengths;
-    }

@@ -32,15 +32,6 @@ use Rattle.visits.specs.Contracts.{WithinNamed, Releases, ReleasesPages}
 use Rattle.range_calls.specs.Finish.{finished}
 use Rattle.range_calls.proofs.Finishing.{words-past, words-lengths, finished-fills}
 
--- the calls, with a list long enough and a number taken
-pub clear-taken : (w : Window) (long : ℕ) → 384 ≤ long → clearStep w ≡ windowStep w (clear (leb 384 long))
-unfolding windowDoes
-clear-taken w long l = rw (le-leb 384 long l)
-
-pub clear-bounded-taken : (w : Window) (number long : ℕ) → 384 ≤ long → number ≤ 256 → clearBoundedStep w number ≡ windowStep w (clear-bounded number (leb 384 long))
-unfolding windowDoes
-clear-bounded-taken w number long l few = rw (le-leb 384 long l, le-leb number 256 few)
-
 -- no value is live once every value is retired
 all-len : (w : Window) → retireAll w .header .len ≡ 0
 unfolding retireAll

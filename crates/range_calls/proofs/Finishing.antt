@@ -70,8 +70,3 @@ module _ (w : AdaptiveReceiverPacketWindow) (a : Answer) (k : ℕ) (sound : Bool
 
 -- ---- refusal 8, for a number above 256
 
-pub above-refused : (n : ℕ) → 256 < n → first 8 (leb n 256) 0 ≡ 8
-above-refused n l = rw (lt-leb n 256 l)
-
-pub within-taken : (n : ℕ) → n ≤ 256 → first 8 (leb n 256) 0 ≡ 0
-within-taken n l = rw (le-leb n 256 l)

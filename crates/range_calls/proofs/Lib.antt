@@ -3,3 +3,4 @@ pub mod Finishing
 pub mod Releasing
 pub mod Clearing
 pub mod Removing
+pub mod Doing

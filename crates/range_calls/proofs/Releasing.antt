@@ -22,11 +22,6 @@ use Rattle.visits.specs.Contracts.{Releases}
 use Rattle.range_calls.specs.Finish.{finished}
 use Rattle.range_calls.proofs.Finishing.{words-past, words-lengths, finished-fills}
 
--- the call, with a list long enough and a budget taken
-pub release-taken : (w : Window) (budget long : ℕ) → 384 ≤ long → budget ≤ 256 → releaseStep w budget ≡ windowStep w (release-retired budget (leb 384 long))
-unfolding windowDoes
-release-taken w budget long l few = rw (le-leb 384 long l, le-leb budget 256 few)
-
 module _ (h : AdaptiveReceiverPacketWindow) (ss vs pages blocks l : List ℕ) (budget : ℕ) (r : Visited) (pages′ blocks′ l′ : List ℕ)
     (long : 384 ≤ length l) (taken : budget ≤ 256) (t : Releases h ss vs pages blocks l 0 budget r pages′ blocks′ l′) where
   few : r .count ≤ 384

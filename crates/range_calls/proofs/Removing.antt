@@ -44,12 +44,6 @@ use Rattle.range_calls.proofs.Finishing.{words-past, words-lengths, fin
 
 -- ---- the call, with its arguments taken
 
-pub range-taken : (h : AdaptiveReceiverPacketWindow) (m : Memory) (a b long start count : ℕ) → 384 ≤ long → count ≡ rangeCount a b → count ≤ h .«window_size» → start ≡ position (h .«window_size») a
-    → rangeStep (decode h m) start count ≡ windowStep (decode h m) (remove-range a b (leb 384 long))
-unfolding windowDoes decode
-range-taken h m a b long start count l e few at =
-    rw (le-leb 384 long l, le-leb (rangeCount a b) (h .«window_size») (omega (arith, e, few))) (λ i. rangeStep (decode h m) (at i) (e i))
-
 -- ---- the window made ready
 
 module _ (held start : ℕ) where

@@ -1,20 +1,23 @@
 // clear: every value retired, and a release visit with its whole budget.
 use crate::finish;
+use calls::admits::Arguments;
+use calls::admits::admits;
 use calls::refuse;
 use retires::retire_all;
 use window::AdaptiveReceiverPacketWindow;
 use window::answers::Answer;
 use window::answers::Step;
-use window::refusals::Refusal;
-use window::refusals::fits_with_list;
-ghost use lib.Dec.{leb};
+use window::refusals::Verdict;
+ghost use Prim.Native.Nat.{_≤_};
 ghost use lib.ListN.{length};
-ghost use Rattle.window.specs.Memory.{memory};
+ghost use Rattle.window.specs.Lent.{ListsFit};
 ghost use Rattle.model.specs.Calls.{clear as clearOf};
-ghost use Rattle.model.specs.Contract.{Meets};
-ghost use Rattle.calls.specs.Answers.{stateOf, leftOf};
+ghost use Rattle.model.specs.Steps.{clearStep};
+ghost use Rattle.calls.specs.Answers.{MeetsInto};
+ghost use Rattle.calls.specs.Contracts.{FillsBy};
 
-pub fn clear(
+// Every value retired, and a release visit.
+fn clear_all(
     w: AdaptiveReceiverPacketWindow,
     sequences: &[u32],
     values: &[u32],
@@ -22,19 +25,9 @@ pub fn clear(
     blocks: &mut [u64],
     returned: &mut [u32],
 ) -> Step
-    ensures { λ r. ⌜ Meets (clearOf (leb 384 (length (now (returned .entry))))) (stateOf w (memory (now (sequences .entry)) (now (values .entry)) (now (pages .entry)) (now (blocks .entry)))) (now (returned .entry))
-        (leftOf r (memory (now (sequences .entry)) (now (values .entry)) (now (pages .exit)) (now (blocks .exit))) (now (returned .exit))) ⌝ }
+    requires { ⌜ ListsFit w sequences values pages blocks × (384 ≤ length (now returned)) ⌝ }
+    ensures { λ r. ⌜ FillsBy clearStep w sequences values pages blocks returned r ⌝ }
 {
-    if !fits_with_list(
-        w,
-        sequences.len(),
-        values.len(),
-        pages.len(),
-        blocks.len(),
-        returned.len(),
-    ) {
-        return refuse(w, Refusal::ShortMemory);
-    }
     let retired = retire_all(w, blocks);
     let visited = visits::release_retired(
         retired,
@@ -48,4 +41,29 @@ pub fn clear(
     );
     let window = visited.window;
     finish(window, Answer::Done, visited.count, visited.sound)
+}
+
+pub fn clear(
+    w: AdaptiveReceiverPacketWindow,
+    sequences: &[u32],
+    values: &[u32],
+    pages: &mut [u64],
+    blocks: &mut [u64],
+    returned: &mut [u32],
+) -> Step
+    ensures { λ r. ⌜ MeetsInto clearOf w sequences values pages blocks returned r ⌝ }
+{
+    let verdict = admits(
+        w,
+        sequences.len(),
+        values.len(),
+        pages.len(),
+        blocks.len(),
+        returned.len(),
+        Arguments::Nothing,
+    );
+    if let Verdict::Refuse(why) = verdict {
+        return refuse(w, why);
+    }
+    clear_all(w, sequences, values, pages, blocks, returned)
 }

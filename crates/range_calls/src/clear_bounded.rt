@@ -1,19 +1,50 @@
 // clear_bounded: every value retired, and at most a number of them handed back from page 0 on, the cursor kept.
 use crate::finish;
+use calls::admits::Arguments;
+use calls::admits::admits;
 use calls::refuse;
 use retires::retire_all;
 use visits::bounded::release_pages;
 use window::AdaptiveReceiverPacketWindow;
 use window::answers::Answer;
 use window::answers::Step;
-use window::refusals::Refusal;
-use window::refusals::fits_with_list;
-ghost use lib.Dec.{leb};
+use window::refusals::Verdict;
+ghost use Prim.Native.Nat.{_≤_};
 ghost use lib.ListN.{length};
-ghost use Rattle.window.specs.Memory.{memory};
+ghost use Rattle.window.specs.Lent.{ListsFit};
 ghost use Rattle.model.specs.Calls.{clear-bounded};
-ghost use Rattle.model.specs.Contract.{Meets};
-ghost use Rattle.calls.specs.Answers.{stateOf, leftOf};
+ghost use Rattle.model.specs.Steps.{clearBoundedStep};
+ghost use Rattle.calls.specs.Answers.{MeetsInto};
+ghost use Rattle.calls.specs.Contracts.{FillsBy};
+
+// Every value retired, and at most `number` of them handed back.
+fn clear_some(
+    w: AdaptiveReceiverPacketWindow,
+    sequences: &[u32],
+    values: &[u32],
+    pages: &mut [u64],
+    blocks: &mut [u64],
+    returned: &mut [u32],
+    number: u32,
+) -> Step
+    requires { ⌜ ListsFit w sequences values pages blocks × (384 ≤ length (now returned)) × (number ≤ 256) ⌝ }
+    ensures { λ r. ⌜ FillsBy (λ v. clearBoundedStep v number) w sequences values pages blocks returned r ⌝ }
+{
+    let retired = retire_all(w, blocks);
+    let released = release_pages(
+        retired,
+        sequences,
+        values,
+        pages,
+        blocks,
+        returned,
+        0,
+        number as usize,
+    );
+    let window = released.window;
+    let answer = Answer::Found(released.count as u32);
+    finish(window, answer, released.count, released.sound)
+}
 
 pub fn clear_bounded(
     w: AdaptiveReceiverPacketWindow,
@@ -24,35 +55,19 @@ pub fn clear_bounded(
     returned: &mut [u32],
     number: u32,
 ) -> Step
-    ensures { λ r. ⌜ Meets (clear-bounded number (leb 384 (length (now (returned .entry))))) (stateOf w (memory (now (sequences .entry)) (now (values .entry)) (now (pages .entry)) (now (blocks .entry)))) (now (returned .entry))
-        (leftOf r (memory (now (sequences .entry)) (now (values .entry)) (now (pages .exit)) (now (blocks .exit))) (now (returned .exit))) ⌝ }
+    ensures { λ r. ⌜ MeetsInto (clear-bounded number) w sequences values pages blocks returned r ⌝ }
 {
-    if !fits_with_list(
+    let verdict = admits(
         w,
         sequences.len(),
         values.len(),
         pages.len(),
         blocks.len(),
         returned.len(),
-    ) {
-        return refuse(w, Refusal::ShortMemory);
-    }
-    let limit = number as usize;
-    if AdaptiveReceiverPacketWindow::MAX_RETIRED_RELEASED_PER_VISIT < limit {
-        return refuse(w, Refusal::Budget);
-    }
-    let retired = retire_all(w, blocks);
-    let released = release_pages(
-        retired,
-        sequences,
-        values,
-        pages,
-        blocks,
-        returned,
-        0,
-        limit,
+        Arguments::Number(number),
     );
-    let window = released.window;
-    let answer = Answer::Found(released.count as u32);
-    finish(window, answer, released.count, released.sound)
+    if let Verdict::Refuse(why) = verdict {
+        return refuse(w, why);
+    }
+    clear_some(w, sequences, values, pages, blocks, returned, number)
 }

@@ -1,5 +1,7 @@
 // remove_range: the live values at the positions from first's to last's retired, and a release visit with its whole budget.
 use crate::finish;
+use calls::admits::Arguments;
+use calls::admits::admits;
 use calls::range_count;
 use calls::refuse;
 use masks::marks::settle_retired;
@@ -9,19 +11,17 @@ use window::AdaptiveReceiverPacketWindow;
 use window::answers::Answer;
 use window::answers::Step;
 use window::memory::position;
-use window::refusals::Refusal;
-use window::refusals::fits_with_list;
+use window::refusals::Verdict;
 ghost use Prim.Native.Nat.{_≤_, _<_};
-ghost use lib.Dec.{leb};
 ghost use lib.ListN.{length};
-ghost use Rattle.window.specs.Memory.{memory, capacity};
-ghost use Rattle.window.specs.Refusals.{Fits};
+ghost use Rattle.window.specs.Memory.{capacity, position as positionOf};
+ghost use Rattle.window.specs.Lent.{foundIn, leftIn, ListsFit};
 ghost use Rattle.model.specs.Calls.{remove-range};
+ghost use Rattle.model.specs.Table.{rangeCount};
 ghost use Rattle.model.specs.Steps.{rangeStep};
-ghost use Rattle.model.specs.Contract.{Meets};
 ghost use Rattle.masks.specs.Contracts.{ChangesHeader};
-ghost use Rattle.calls.specs.Answers.{stateOf, leftOf};
-ghost use Rattle.calls.specs.Contracts.{Fills};
+ghost use Rattle.calls.specs.Answers.{MeetsInto};
+ghost use Rattle.calls.specs.Contracts.{FillsBy};
 ghost use Rattle.ranges.specs.Contracts.{Performs};
 ghost use Rattle.range_calls.specs.Range.{readied, retireReady};
 
@@ -50,9 +50,9 @@ fn retire(
     start: usize,
     count: usize,
 ) -> Retired
-    requires { ⌜ Fits w (length (now sequences)) (length (now values)) (length (now pages)) (length (now blocks)) ⌝ }
+    requires { ⌜ ListsFit w sequences values pages blocks ⌝ }
     requires { ⌜ (start < capacity (w .«window_size»)) × (0 < count) × (count ≤ capacity (w .«window_size»)) × (128 ≤ length (now returned)) ⌝ }
-    ensures { λ r. ⌜ Performs (λ v. retireReady v start count) 128 w (memory (now (sequences .entry)) (now (values .entry)) (now (pages .entry)) (now (blocks .entry))) 0 (now (returned .entry)) r (memory (now (sequences .exit)) (now (values .exit)) (now (pages .exit)) (now (blocks .exit))) (now (returned .exit)) ⌝ }
+    ensures { λ r. ⌜ Performs (λ v. retireReady v start count) 128 w (foundIn sequences values pages blocks) 0 (now (returned .entry)) r (leftIn sequences values pages blocks) (now (returned .exit)) ⌝ }
 {
     let retired = retire_range(w, sequences, values, pages, blocks, returned, start, count);
     let left = retired.window;
@@ -76,10 +76,9 @@ fn remove_positions(
     start: usize,
     count: usize,
 ) -> Step
-    requires { ⌜ Fits w (length (now sequences)) (length (now values)) (length (now pages)) (length (now blocks)) ⌝ }
+    requires { ⌜ ListsFit w sequences values pages blocks ⌝ }
     requires { ⌜ (start < capacity (w .«window_size»)) × (0 < count) × (count ≤ capacity (w .«window_size»)) × (384 ≤ length (now returned)) ⌝ }
-    ensures { λ r. ⌜ Fills (λ v. rangeStep v start count) (stateOf w (memory (now (sequences .entry)) (now (values .entry)) (now (pages .entry)) (now (blocks .entry)))) (now (returned .entry))
-        (leftOf r (memory (now (sequences .exit)) (now (values .exit)) (now (pages .exit)) (now (blocks .exit))) (now (returned .exit))) ⌝ }
+    ensures { λ r. ⌜ FillsBy (λ v. rangeStep v start count) w sequences values pages blocks returned r ⌝ }
 {
     let retired = retire(w, sequences, values, pages, blocks, returned, start, count);
     let left = retired.window;
@@ -100,6 +99,25 @@ fn remove_positions(
     finish(window, Answer::Found(removed), at + visited.count, sound)
 }
 
+// The same at the positions from first's to last's.
+fn remove_between(
+    w: AdaptiveReceiverPacketWindow,
+    sequences: &mut [u32],
+    values: &mut [u32],
+    pages: &mut [u64],
+    blocks: &mut [u64],
+    returned: &mut [u32],
+    first: u32,
+    last: u32,
+) -> Step
+    requires { ⌜ ListsFit w sequences values pages blocks × (384 ≤ length (now returned)) × (rangeCount first last ≤ w .«window_size») ⌝ }
+    ensures { λ r. ⌜ FillsBy (λ v. rangeStep v (positionOf (w .«window_size») first) (rangeCount first last)) w sequences values pages blocks returned r ⌝ }
+{
+    let start = position(w.window_size, first);
+    let count = range_count(first, last) as usize;
+    remove_positions(w, sequences, values, pages, blocks, returned, start, count)
+}
+
 pub fn remove_range(
     w: AdaptiveReceiverPacketWindow,
     sequences: &mut [u32],
@@ -110,32 +128,19 @@ pub fn remove_range(
     first: u32,
     last: u32,
 ) -> Step
-    ensures { λ r. ⌜ Meets (remove-range first last (leb 384 (length (now (returned .entry))))) (stateOf w (memory (now (sequences .entry)) (now (values .entry)) (now (pages .entry)) (now (blocks .entry)))) (now (returned .entry))
-        (leftOf r (memory (now (sequences .exit)) (now (values .exit)) (now (pages .exit)) (now (blocks .exit))) (now (returned .exit))) ⌝ }
+    ensures { λ r. ⌜ MeetsInto (remove-range first last) w sequences values pages blocks returned r ⌝ }
 {
-    if !fits_with_list(
+    let verdict = admits(
         w,
         sequences.len(),
         values.len(),
         pages.len(),
         blocks.len(),
         returned.len(),
-    ) {
-        return refuse(w, Refusal::ShortMemory);
+        Arguments::Range(first, last),
+    );
+    if let Verdict::Refuse(why) = verdict {
+        return refuse(w, why);
     }
-    let count = range_count(first, last);
-    if w.window_size < count {
-        return refuse(w, Refusal::RangeCount);
-    }
-    let start = position(w.window_size, first);
-    remove_positions(
-        w,
-        sequences,
-        values,
-        pages,
-        blocks,
-        returned,
-        start,
-        count as usize,
-    )
+    remove_between(w, sequences, values, pages, blocks, returned, first, last)
 }

@@ -179,5 +179,8 @@ pub fn stranger(
     if let Verdict::Refuse(why) = verdict {
         return refuse(w, why);
     }
-    reply(w, first_stranger(w, sequences, values, pages, blocks, first, last))
+    reply(
+        w,
+        first_stranger(w, sequences, values, pages, blocks, first, last),
+    )
 }

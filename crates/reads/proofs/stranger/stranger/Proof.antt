@@ -41,7 +41,7 @@ fit : (m : tie.At-match-keys2) → let s = m .before .before .before .before .be
 fit m = let s = m .before .before .before .before .before .before .args in asked-fits (stranger (s .first) (s .last)) (found (m .before)) (m .before .admits .result) (m .before .admits .ensures) (m .match .keys2)
 
 first-stranger-requires : tie.Need-first-stranger-requires
-first-stranger-requires c κs = 
+first-stranger-requires c κs =
     let m : tie.At-match-keys2 = c .before in
     let s = m .before .before .before .before .before .before .args in
     (fit m, count-taken (knownBy (s .w)) (s .first) (s .last) (asked-arguments (stranger (s .first) (s .last)) (found (m .before)) (m .before .admits .result) (m .before .admits .ensures) (m .match .keys2)))
