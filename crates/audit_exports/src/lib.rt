@@ -5,12 +5,8 @@ use exports::NumberedStep;
 use exports::in_numbers;
 use reads::stranger::stranger;
 use window::AdaptiveReceiverPacketWindow;
-ghost use mathlib.Core.List.{[]};
-ghost use Rattle.window.specs.Memory.{memory};
-ghost use Rattle.model.specs.Calls.{stranger as strangerOf, check as checkOf};
-ghost use Rattle.model.specs.Contract.{Meets};
-ghost use Rattle.calls.specs.Answers.{stateOf};
-ghost use Rattle.exports.specs.Numbers.{numbersLeft};
+ghost use Rattle.model.specs.Calls.{stranger as strangerOf, check as checkOf, ask};
+ghost use Rattle.exports.specs.Numbers.{NumbersMeetBy};
 
 #[no_mangle]
 pub extern "C" fn packet_window_stranger(
@@ -22,8 +18,7 @@ pub extern "C" fn packet_window_stranger(
     first: u32,
     last: u32,
 ) -> NumberedStep
-    ensures { λ r. ⌜ Meets (strangerOf first last) (stateOf w (memory (now (sequences .entry)) (now (values .entry)) (now (pages .entry)) (now (blocks .entry)))) []
-        (numbersLeft r (memory (now (sequences .entry)) (now (values .entry)) (now (pages .entry)) (now (blocks .entry))) []) ⌝ }
+    ensures { λ r. ⌜ NumbersMeetBy (ask (strangerOf first last)) w sequences values pages blocks r ⌝ }
 {
     in_numbers(stranger(w, sequences, values, pages, blocks, first, last))
 }
@@ -36,8 +31,7 @@ pub extern "C" fn packet_window_check(
     pages: &[u64],
     blocks: &[u64],
 ) -> NumberedStep
-    ensures { λ r. ⌜ Meets checkOf (stateOf w (memory (now (sequences .entry)) (now (values .entry)) (now (pages .entry)) (now (blocks .entry)))) []
-        (numbersLeft r (memory (now (sequences .entry)) (now (values .entry)) (now (pages .entry)) (now (blocks .entry))) []) ⌝ }
+    ensures { λ r. ⌜ NumbersMeetBy (ask checkOf) w sequences values pages blocks r ⌝ }
 {
     in_numbers(check(w, sequences, values, pages, blocks))
 }

@@ -1,63 +1,68 @@
--- The answers in numbers, and what a call left as the contract of every call reads it. Definitions only. Assumes nothing.
+-- The answers in numbers, and the contract of every call for a function in C's calling convention. Definitions only. Assumes nothing.
 use mathlib.Core.Path.{_≡_}
-use mathlib.Core.Bool.{false, cond}
-use mathlib.Core.List.{List}
+use mathlib.Core.Bool.{Bool}
+use mathlib.Core.List.{List, []}
 use Prim.Native.Nat.{ℕ}
-use lib.Dec.{eqb}
-use Rattle.window.specs.declared.Created.{Created}
+use denote.Ref.{now}
+use lib.Dec.{leb}
+use lib.ListN.{length}
+use Rattle.window.specs.declared.AdaptiveReceiverPacketWindow.{AdaptiveReceiverPacketWindow}
 use Rattle.window.specs.declared.answers.Step.{Step}
 use Rattle.window.specs.Memory.{Memory}
+use Rattle.window.specs.Lent.{Lent, foundIn, leftIn}
 use Rattle.window.specs.New.{NewAnswer, made, fresh, newResult, newOf}
 use Rattle.window.specs.New as window
-use Rattle.model.specs.Calls.{Answer, done, new, replaced, absent, found, pair, released, refused}
-use Rattle.model.specs.Contract.{Left}
+use Rattle.model.specs.Calls.{Call, Answer, done, new, replaced, absent, found, pair, released, refused}
+use Rattle.model.specs.Contract.{State, Meets}
 use Rattle.calls.specs.Answers.{answerOf, stateOf}
 use Rattle.exports.specs.declared.NumberedAnswer.{NumberedAnswer}
 use Rattle.exports.specs.declared.NumberedStep.{NumberedStep}
 
--- a refusal with its number; any code but 7 is none, and reads as the number 0, which no refusal has
-abbrev pub refusalFrom : NumberedAnswer → ℕ
-refusalFrom a = cond (eqb (a .code) 7) (a .first) 0
+abbrev pub numbered : (code first second third : ℕ) → NumberedAnswer
+numbered code first second third = record { code = code; first = first; second = second; third = third }
 
--- document 01's answer for each code
-unfoldable pub answerFrom : NumberedAnswer → Answer
-answerFrom a =
-    cond (eqb (a .code) 0) done
-    (cond (eqb (a .code) 1) new
-    (cond (eqb (a .code) 2) (replaced (a .first))
-    (cond (eqb (a .code) 3) absent
-    (cond (eqb (a .code) 4) (found (a .first))
-    (cond (eqb (a .code) 5) (pair (a .first) (a .second) (a .third))
-    (cond (eqb (a .code) 6) (released (a .first) (a .second))
-    (refused (refusalFrom a))))))))
-
-abbrev pub numbersLeft : NumberedStep → List ℕ → List ℕ → List ℕ → List ℕ → List ℕ → Left
-numbersLeft r ss vs pages blocks l = record { answer = answerFrom (r .answer); count = r .count; state = stateOf (r .window) ss vs pages blocks; list = l }
+-- the numbers of document 01's answers: a code, then what the answer carries, and 0 for what it does not
+abbrev pub numbersOf : Answer → NumberedAnswer
+numbersOf done = numbered 0 0 0 0
+numbersOf new = numbered 1 0 0 0
+numbersOf (replaced v) = numbered 2 v 0 0
+numbersOf absent = numbered 3 0 0 0
+numbersOf (found n) = numbered 4 n 0 0
+numbersOf (pair s v next) = numbered 5 s v next
+numbersOf (released values units) = numbered 6 values units 0
+numbersOf (refused k) = numbered 7 k 0 0
 
 -- a step, and the same in numbers
-pub record Same (s : Step) (r : NumberedStep) : Type 0 where
-  pub window : r .window ≡ s .window
-  pub answer : answerFrom (r .answer) ≡ answerOf (s .answer .answer)
-  pub count : r .count ≡ s .answer .count
+abbrev pub SameStep : Step → NumberedStep → Type 0
+SameStep s r = r ≡ record { window = s .window; answer = numbersOf (answerOf (s .answer .answer)); count = s .answer .count }
+
+-- a step in numbers, with the memory and the return list that it left: its numbers are those of an answer with which the call meets
+-- the contract of every call
+pub record NumbersMeet (c : Call) (u : State) (l : List ℕ) (r : NumberedStep) (m : Memory) (l′ : List ℕ) : Type 0 where
+  pub answer : Answer
+  pub numbers : r .answer ≡ numbersOf answer
+  pub meets : Meets c u l (record { answer = answer; count = r .count; state = stateOf (r .window) m; list = l′ })
+
+-- as a signature says it, without and with a return list
+abbrev pub NumbersMeetBy : Call → AdaptiveReceiverPacketWindow → (sequences values pages blocks : Lent) → NumberedStep → Type 0
+NumbersMeetBy c w ss vs pages blocks r = NumbersMeet c (stateOf w (foundIn ss vs pages blocks)) [] r (leftIn ss vs pages blocks) []
+
+abbrev pub NumbersMeetInto : (Bool → Call) → AdaptiveReceiverPacketWindow → (sequences values pages blocks returned : Lent) → NumberedStep → Type 0
+NumbersMeetInto c w ss vs pages blocks l r =
+    NumbersMeet (c (leb 384 (length (now (l .entry))))) (stateOf w (foundIn ss vs pages blocks)) (now (l .entry)) r (leftIn ss vs pages blocks) (now (l .exit))
 
 -- ---- new
 
--- code 0 is the new header
-unfoldable pub newFrom : NumberedStep → NewAnswer
-newFrom r = cond (eqb (r .answer .code) 0) (made (r .window)) (window.refused (refusalFrom (r .answer)))
+-- what new answered, in numbers: a refusal comes with a header of zeros
+abbrev pub numbersOfNew : NewAnswer → NumberedStep
+numbersOfNew (made h) = record { window = h; answer = numbered 0 0 0 0; count = 0 }
+numbersOfNew (window.refused k) = record { window = fresh 0 0 0; answer = numbered 7 k 0 0; count = 0 }
 
--- a refusal comes with a header of zeros
-abbrev pub Zeros : NumberedStep → Type 0
-Zeros r = eqb (r .answer .code) 0 ≡ false → r .window ≡ fresh 0 0 0
-
--- what new answered, and the same in numbers
-pub record Made (a : Created) (r : NumberedStep) : Type 0 where
-  pub answer : newFrom r ≡ window.answerOf a
-  pub count : r .count ≡ 0
-  pub zeros : Zeros r
-
--- what packet_window_new gives over the memory m, which is m′ after the call
+-- what packet_window_new gives: the numbers of the answer that the definition of new gives, with the memory that it leaves
 pub record Creates (r : NumberedStep) (m : Memory) (size n demoteAt : ℕ) (m′ : Memory) : Type 0 where
-  pub result : newResult (newFrom r) m′ ≡ newOf m size n demoteAt
-  pub count : r .count ≡ 0
-  pub zeros : Zeros r
+  pub answer : NewAnswer
+  pub numbers : r ≡ numbersOfNew answer
+  pub result : newResult answer m′ ≡ newOf m size n demoteAt
+
+abbrev pub CreatesBy : (size n demoteAt : ℕ) → (sequences values pages blocks : Lent) → NumberedStep → Type 0
+CreatesBy size n demoteAt ss vs pages blocks r = Creates r (foundIn ss vs pages blocks) size n demoteAt (leftIn ss vs pages blocks)

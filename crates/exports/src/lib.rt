@@ -15,15 +15,10 @@ use window::answers::Answer;
 use window::answers::Step;
 use window::refusals::refusal_number;
 ghost use mathlib.Core.Path.{_≡_};
-ghost use mathlib.Core.List.{[]};
-ghost use lib.Dec.{leb};
-ghost use lib.ListN.{length};
-ghost use Rattle.window.specs.Memory.{memory};
-ghost use Rattle.window.specs.New.{fresh};
-ghost use Rattle.model.specs.Calls.{insert as insertOf, get as getOf, exchange as exchangeOf, remove as removeOf, successor-after, first-from, iter as iterOf};
-ghost use Rattle.model.specs.Contract.{Meets};
-ghost use Rattle.calls.specs.Answers.{answerOf, stateOf};
-ghost use Rattle.exports.specs.Numbers.{answerFrom, numbersLeft, Same, Made, Creates};
+ghost use Rattle.window.specs.New.{fresh, answerOf as newAnswerOf};
+ghost use Rattle.model.specs.Calls.{get as getOf, successor-after, first-from, iter as iterOf, insert as insertOf, exchange as exchangeOf, remove as removeOf, ask};
+ghost use Rattle.calls.specs.Answers.{answerOf};
+ghost use Rattle.exports.specs.Numbers.{numbered as numberedOf, numbersOf, SameStep, numbersOfNew, NumbersMeetBy, NumbersMeetInto, CreatesBy};
 
 // code: 0 done, 1 new, 2 replaced, 3 absent, 4 found, 5 a pair, 6 released, 7 refused; then the values of the answer, or the
 // refusal's number.
@@ -44,7 +39,7 @@ pub struct NumberedStep {
 }
 
 fn numbered(code: u32, first: u32, second: u32, third: u32) -> NumberedAnswer
-    ensures { λ r. ⌜ r ≡ record { code = code; first = first; second = second; third = third } ⌝ }
+    ensures { λ r. ⌜ r ≡ numberedOf code first second third ⌝ }
 {
     NumberedAnswer {
         code,
@@ -56,7 +51,7 @@ fn numbered(code: u32, first: u32, second: u32, third: u32) -> NumberedAnswer
 
 // An answer in numbers.
 pub fn numbers(answer: Answer) -> NumberedAnswer
-    ensures { λ r. ⌜ answerFrom r ≡ answerOf answer ⌝ }
+    ensures { λ r. ⌜ r ≡ numbersOf (answerOf answer) ⌝ }
 {
     match answer {
         Answer::Done => numbered(0, 0, 0, 0),
@@ -72,7 +67,7 @@ pub fn numbers(answer: Answer) -> NumberedAnswer
 
 // A step in numbers.
 pub fn in_numbers(step: Step) -> NumberedStep
-    ensures { λ r. ⌜ Same step r ⌝ }
+    ensures { λ r. ⌜ SameStep step r ⌝ }
 {
     let window = step.window;
     let outcome = step.answer;
@@ -116,7 +111,7 @@ fn no_window() -> AdaptiveReceiverPacketWindow
 
 // What new gives in numbers; a refusal comes with a header of zeros, with which every call is refused 6.
 fn created(made: Created) -> NumberedStep
-    ensures { λ r. ⌜ Made made r ⌝ }
+    ensures { λ r. ⌜ r ≡ numbersOfNew (newAnswerOf made) ⌝ }
 {
     match made {
         Created::New(window) => numbered_step(window, numbered(0, 0, 0, 0)),
@@ -134,8 +129,7 @@ pub extern "C" fn packet_window_new(
     n: u32,
     demote_at: u32,
 ) -> NumberedStep
-    ensures { λ r. ⌜ Creates r (memory (now (sequences .entry)) (now (values .entry)) (now (pages .entry)) (now (blocks .entry))) «window_size» n «demote_at»
-        (memory (now (sequences .exit)) (now (values .exit)) (now (pages .exit)) (now (blocks .exit))) ⌝ }
+    ensures { λ r. ⌜ CreatesBy «window_size» n «demote_at» sequences values pages blocks r ⌝ }
 {
     created(AdaptiveReceiverPacketWindow::new(
         sequences,
@@ -157,8 +151,7 @@ pub extern "C" fn packet_window_get(
     blocks: &[u64],
     sequence: u32,
 ) -> NumberedStep
-    ensures { λ r. ⌜ Meets (getOf sequence) (stateOf w (memory (now (sequences .entry)) (now (values .entry)) (now (pages .entry)) (now (blocks .entry)))) []
-        (numbersLeft r (memory (now (sequences .entry)) (now (values .entry)) (now (pages .entry)) (now (blocks .entry))) []) ⌝ }
+    ensures { λ r. ⌜ NumbersMeetBy (ask (getOf sequence)) w sequences values pages blocks r ⌝ }
 {
     in_numbers(get(w, sequences, values, pages, blocks, sequence))
 }
@@ -172,8 +165,7 @@ pub extern "C" fn packet_window_successor_after(
     blocks: &[u64],
     sequence: u32,
 ) -> NumberedStep
-    ensures { λ r. ⌜ Meets (successor-after sequence) (stateOf w (memory (now (sequences .entry)) (now (values .entry)) (now (pages .entry)) (now (blocks .entry)))) []
-        (numbersLeft r (memory (now (sequences .entry)) (now (values .entry)) (now (pages .entry)) (now (blocks .entry))) []) ⌝ }
+    ensures { λ r. ⌜ NumbersMeetBy (ask (successor-after sequence)) w sequences values pages blocks r ⌝ }
 {
     in_numbers(successor_after(w, sequences, values, pages, blocks, sequence))
 }
@@ -187,8 +179,7 @@ pub extern "C" fn packet_window_first_from(
     blocks: &[u64],
     sequence: u32,
 ) -> NumberedStep
-    ensures { λ r. ⌜ Meets (first-from sequence) (stateOf w (memory (now (sequences .entry)) (now (values .entry)) (now (pages .entry)) (now (blocks .entry)))) []
-        (numbersLeft r (memory (now (sequences .entry)) (now (values .entry)) (now (pages .entry)) (now (blocks .entry))) []) ⌝ }
+    ensures { λ r. ⌜ NumbersMeetBy (ask (first-from sequence)) w sequences values pages blocks r ⌝ }
 {
     in_numbers(first_from(w, sequences, values, pages, blocks, sequence))
 }
@@ -202,8 +193,7 @@ pub extern "C" fn packet_window_iter(
     blocks: &[u64],
     cell: u32,
 ) -> NumberedStep
-    ensures { λ r. ⌜ Meets (iterOf cell) (stateOf w (memory (now (sequences .entry)) (now (values .entry)) (now (pages .entry)) (now (blocks .entry)))) []
-        (numbersLeft r (memory (now (sequences .entry)) (now (values .entry)) (now (pages .entry)) (now (blocks .entry))) []) ⌝ }
+    ensures { λ r. ⌜ NumbersMeetBy (ask (iterOf cell)) w sequences values pages blocks r ⌝ }
 {
     in_numbers(iter(w, sequences, values, pages, blocks, cell))
 }
@@ -218,8 +208,7 @@ pub extern "C" fn packet_window_exchange(
     sequence: u32,
     value: u32,
 ) -> NumberedStep
-    ensures { λ r. ⌜ Meets (exchangeOf sequence value) (stateOf w (memory (now (sequences .entry)) (now (values .entry)) (now (pages .entry)) (now (blocks .entry)))) []
-        (numbersLeft r (memory (now (sequences .entry)) (now (values .exit)) (now (pages .entry)) (now (blocks .entry))) []) ⌝ }
+    ensures { λ r. ⌜ NumbersMeetBy (exchangeOf sequence value) w sequences values pages blocks r ⌝ }
 {
     in_numbers(exchange(w, sequences, values, pages, blocks, sequence, value))
 }
@@ -233,8 +222,7 @@ pub extern "C" fn packet_window_remove(
     blocks: &mut [u64],
     sequence: u32,
 ) -> NumberedStep
-    ensures { λ r. ⌜ Meets (removeOf sequence) (stateOf w (memory (now (sequences .entry)) (now (values .entry)) (now (pages .entry)) (now (blocks .entry)))) []
-        (numbersLeft r (memory (now (sequences .exit)) (now (values .exit)) (now (pages .exit)) (now (blocks .exit))) []) ⌝ }
+    ensures { λ r. ⌜ NumbersMeetBy (removeOf sequence) w sequences values pages blocks r ⌝ }
 {
     in_numbers(remove(w, sequences, values, pages, blocks, sequence))
 }
@@ -250,8 +238,7 @@ pub extern "C" fn packet_window_insert(
     sequence: u32,
     value: u32,
 ) -> NumberedStep
-    ensures { λ r. ⌜ Meets (insertOf sequence value (leb 384 (length (now (returned .entry))))) (stateOf w (memory (now (sequences .entry)) (now (values .entry)) (now (pages .entry)) (now (blocks .entry)))) (now (returned .entry))
-        (numbersLeft r (memory (now (sequences .exit)) (now (values .exit)) (now (pages .exit)) (now (blocks .exit))) (now (returned .exit))) ⌝ }
+    ensures { λ r. ⌜ NumbersMeetInto (insertOf sequence value) w sequences values pages blocks returned r ⌝ }
 {
     in_numbers(insert(
         w,

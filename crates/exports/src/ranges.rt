@@ -6,13 +6,8 @@ use range_calls::clear_bounded::clear_bounded;
 use range_calls::release_retired::release_retired;
 use range_calls::remove_range::remove_range;
 use window::AdaptiveReceiverPacketWindow;
-ghost use lib.Dec.{leb};
-ghost use lib.ListN.{length};
-ghost use Rattle.window.specs.Memory.{memory};
 ghost use Rattle.model.specs.Calls.{remove-range, clear as clearOf, clear-bounded, release-retired};
-ghost use Rattle.model.specs.Contract.{Meets};
-ghost use Rattle.calls.specs.Answers.{stateOf};
-ghost use Rattle.exports.specs.Numbers.{numbersLeft};
+ghost use Rattle.exports.specs.Numbers.{NumbersMeetInto};
 
 #[no_mangle]
 pub extern "C" fn packet_window_remove_range(
@@ -25,8 +20,7 @@ pub extern "C" fn packet_window_remove_range(
     first: u32,
     last: u32,
 ) -> NumberedStep
-    ensures { λ r. ⌜ Meets (remove-range first last (leb 384 (length (now (returned .entry))))) (stateOf w (memory (now (sequences .entry)) (now (values .entry)) (now (pages .entry)) (now (blocks .entry)))) (now (returned .entry))
-        (numbersLeft r (memory (now (sequences .exit)) (now (values .exit)) (now (pages .exit)) (now (blocks .exit))) (now (returned .exit))) ⌝ }
+    ensures { λ r. ⌜ NumbersMeetInto (remove-range first last) w sequences values pages blocks returned r ⌝ }
 {
     in_numbers(remove_range(w, sequences, values, pages, blocks, returned, first, last))
 }
@@ -41,8 +35,7 @@ pub extern "C" fn packet_window_release_retired(
     returned: &mut [u32],
     budget: u32,
 ) -> NumberedStep
-    ensures { λ r. ⌜ Meets (release-retired budget (leb 384 (length (now (returned .entry))))) (stateOf w (memory (now (sequences .entry)) (now (values .entry)) (now (pages .entry)) (now (blocks .entry)))) (now (returned .entry))
-        (numbersLeft r (memory (now (sequences .entry)) (now (values .entry)) (now (pages .exit)) (now (blocks .exit))) (now (returned .exit))) ⌝ }
+    ensures { λ r. ⌜ NumbersMeetInto (release-retired budget) w sequences values pages blocks returned r ⌝ }
 {
     in_numbers(release_retired(w, sequences, values, pages, blocks, returned, budget))
 }
@@ -56,8 +49,7 @@ pub extern "C" fn packet_window_clear(
     blocks: &mut [u64],
     returned: &mut [u32],
 ) -> NumberedStep
-    ensures { λ r. ⌜ Meets (clearOf (leb 384 (length (now (returned .entry))))) (stateOf w (memory (now (sequences .entry)) (now (values .entry)) (now (pages .entry)) (now (blocks .entry)))) (now (returned .entry))
-        (numbersLeft r (memory (now (sequences .entry)) (now (values .entry)) (now (pages .exit)) (now (blocks .exit))) (now (returned .exit))) ⌝ }
+    ensures { λ r. ⌜ NumbersMeetInto clearOf w sequences values pages blocks returned r ⌝ }
 {
     in_numbers(clear(w, sequences, values, pages, blocks, returned))
 }
@@ -72,8 +64,7 @@ pub extern "C" fn packet_window_clear_bounded(
     returned: &mut [u32],
     number: u32,
 ) -> NumberedStep
-    ensures { λ r. ⌜ Meets (clear-bounded number (leb 384 (length (now (returned .entry))))) (stateOf w (memory (now (sequences .entry)) (now (values .entry)) (now (pages .entry)) (now (blocks .entry)))) (now (returned .entry))
-        (numbersLeft r (memory (now (sequences .entry)) (now (values .entry)) (now (pages .exit)) (now (blocks .exit))) (now (returned .exit))) ⌝ }
+    ensures { λ r. ⌜ NumbersMeetInto (clear-bounded number) w sequences values pages blocks returned r ⌝ }
 {
     in_numbers(clear_bounded(w, sequences, values, pages, blocks, returned, number))
 }

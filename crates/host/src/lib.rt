@@ -2,14 +2,8 @@
 // the call by value and writes the header back that the call gives.
 use window::AdaptiveReceiverPacketWindow;
 use window::answers::Outcome;
-ghost use mathlib.Core.List.{[]};
-ghost use lib.Dec.{leb};
-ghost use lib.ListN.{length};
-ghost use Rattle.window.specs.Memory.{memory};
 ghost use Rattle.model.specs.Calls.{insert as insertOf, remove as removeOf, release-retired};
-ghost use Rattle.model.specs.Contract.{Meets};
-ghost use Rattle.calls.specs.Answers.{stateOf};
-ghost use Rattle.host.specs.Lent.{leftAt};
+ghost use Rattle.host.specs.Lent.{HostMeetsBy, HostMeetsInto};
 
 pub fn insert(
     w: &mut AdaptiveReceiverPacketWindow,
@@ -21,8 +15,7 @@ pub fn insert(
     sequence: u32,
     value: u32,
 ) -> Outcome
-    ensures { λ r. ⌜ Meets (insertOf sequence value (leb 384 (length (now (returned .entry))))) (stateOf (now (w .entry)) (memory (now (sequences .entry)) (now (values .entry)) (now (pages .entry)) (now (blocks .entry)))) (now (returned .entry))
-        (leftAt (now (w .exit)) r (memory (now (sequences .exit)) (now (values .exit)) (now (pages .exit)) (now (blocks .exit))) (now (returned .exit))) ⌝ }
+    ensures { λ r. ⌜ HostMeetsInto (insertOf sequence value) w sequences values pages blocks returned r ⌝ }
 {
     let inserted = points::insert::insert(
         *w,
@@ -46,8 +39,7 @@ pub fn remove(
     blocks: &mut [u64],
     sequence: u32,
 ) -> Outcome
-    ensures { λ r. ⌜ Meets (removeOf sequence) (stateOf (now (w .entry)) (memory (now (sequences .entry)) (now (values .entry)) (now (pages .entry)) (now (blocks .entry)))) []
-        (leftAt (now (w .exit)) r (memory (now (sequences .exit)) (now (values .exit)) (now (pages .exit)) (now (blocks .exit))) []) ⌝ }
+    ensures { λ r. ⌜ HostMeetsBy (removeOf sequence) w sequences values pages blocks r ⌝ }
 {
     let removed = points::remove::remove(*w, sequences, values, pages, blocks, sequence);
     *w = removed.window;
@@ -63,8 +55,7 @@ pub fn release_retired(
     returned: &mut [u32],
     budget: u32,
 ) -> Outcome
-    ensures { λ r. ⌜ Meets (release-retired budget (leb 384 (length (now (returned .entry))))) (stateOf (now (w .entry)) (memory (now (sequences .entry)) (now (values .entry)) (now (pages .entry)) (now (blocks .entry)))) (now (returned .entry))
-        (leftAt (now (w .exit)) r (memory (now (sequences .entry)) (now (values .entry)) (now (pages .exit)) (now (blocks .exit))) (now (returned .exit))) ⌝ }
+    ensures { λ r. ⌜ HostMeetsInto (release-retired budget) w sequences values pages blocks returned r ⌝ }
 {
     let released = range_calls::release_retired::release_retired(
         *w,

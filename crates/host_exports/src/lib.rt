@@ -4,14 +4,8 @@ use exports::NumberedAnswer;
 use exports::numbers;
 use window::AdaptiveReceiverPacketWindow;
 use window::answers::Outcome;
-ghost use mathlib.Core.List.{[]};
-ghost use lib.Dec.{leb};
-ghost use lib.ListN.{length};
-ghost use Rattle.window.specs.Memory.{memory};
 ghost use Rattle.model.specs.Calls.{insert as insertOf, remove as removeOf, release-retired};
-ghost use Rattle.model.specs.Contract.{Meets};
-ghost use Rattle.calls.specs.Answers.{stateOf};
-ghost use Rattle.host_exports.specs.Outcomes.{leftIn, SameOutcome};
+ghost use Rattle.host_exports.specs.Outcomes.{SameOutcome, OutcomeMeetsBy, OutcomeMeetsInto};
 
 // An answer, and how many values the call put into its return list.
 #[repr(C)]
@@ -41,8 +35,7 @@ pub extern "C" fn packet_window_host_insert(
     sequence: u32,
     value: u32,
 ) -> NumberedOutcome
-    ensures { λ r. ⌜ Meets (insertOf sequence value (leb 384 (length (now (returned .entry))))) (stateOf (now (w .entry)) (memory (now (sequences .entry)) (now (values .entry)) (now (pages .entry)) (now (blocks .entry)))) (now (returned .entry))
-        (leftIn (now (w .exit)) r (memory (now (sequences .exit)) (now (values .exit)) (now (pages .exit)) (now (blocks .exit))) (now (returned .exit))) ⌝ }
+    ensures { λ r. ⌜ OutcomeMeetsInto (insertOf sequence value) w sequences values pages blocks returned r ⌝ }
 {
     outcome_in_numbers(host::insert(
         w,
@@ -65,8 +58,7 @@ pub extern "C" fn packet_window_host_remove(
     blocks: &mut [u64],
     sequence: u32,
 ) -> NumberedOutcome
-    ensures { λ r. ⌜ Meets (removeOf sequence) (stateOf (now (w .entry)) (memory (now (sequences .entry)) (now (values .entry)) (now (pages .entry)) (now (blocks .entry)))) []
-        (leftIn (now (w .exit)) r (memory (now (sequences .exit)) (now (values .exit)) (now (pages .exit)) (now (blocks .exit))) []) ⌝ }
+    ensures { λ r. ⌜ OutcomeMeetsBy (removeOf sequence) w sequences values pages blocks r ⌝ }
 {
     outcome_in_numbers(host::remove(w, sequences, values, pages, blocks, sequence))
 }
@@ -81,8 +73,7 @@ pub extern "C" fn packet_window_host_release_retired(
     returned: &mut [u32],
     budget: u32,
 ) -> NumberedOutcome
-    ensures { λ r. ⌜ Meets (release-retired budget (leb 384 (length (now (returned .entry))))) (stateOf (now (w .entry)) (memory (now (sequences .entry)) (now (values .entry)) (now (pages .entry)) (now (blocks .entry)))) (now (returned .entry))
-        (leftIn (now (w .exit)) r (memory (now (sequences .entry)) (now (values .entry)) (now (pages .exit)) (now (blocks .exit))) (now (returned .exit))) ⌝ }
+    ensures { λ r. ⌜ OutcomeMeetsInto (release-retired budget) w sequences values pages blocks returned r ⌝ }
 {
     outcome_in_numbers(host::release_retired(w, sequences, values, pages, blocks, returned, budget))
 }

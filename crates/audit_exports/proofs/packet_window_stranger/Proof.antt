@@ -19,7 +19,7 @@ in-numbers-requires c κs = search needs
 returns : tie.Need-returns
 returns c =
     let t = c .before .stranger in
-    in-numbers _ _ _ (t .result) (c .in-numbers .result) _ _ _ _ _ (c .in-numbers .ensures) (t .ensures)
+    in-numbers _ _ _ (t .result) (c .in-numbers .result) _ _ (c .in-numbers .ensures) (t .ensures)
 
 pub packet-window-stranger-spec : {M : Type 1} → statement M
 packet-window-stranger-spec = tie.close (tie.spec stranger-requires in-numbers-requires returns)

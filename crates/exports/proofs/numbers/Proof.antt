@@ -1,7 +1,8 @@
-use mathlib.Core.Path.{refl, ap}
+use mathlib.Core.Path.{ap, _∙_}
+use Prim.Native.Nat.{ℕ}
 use borrow.Author.Needs.{needs}
 use Rattle.model.specs.Calls.{refused}
-use Rattle.exports.specs.Numbers.{answerFrom}
+use Rattle.exports.specs.Numbers.{numbersOf}
 use Rattle.exports.proofs.Carrying.{told-as}
 use Rattle.exports.proofs.numbers.Statement.{statement}
 use Rattle.exports.proofs.numbers.Tie as tie
@@ -79,43 +80,35 @@ numbered-requires-8 c κs = search needs
 
 -- src/lib.rt:70:1
 returns : tie.Need-returns
-unfolding answerFrom
-returns c = told-as _ _ _ _ (c .numbered .ensures) (c .before .enum-told .given .1) refl
+returns c = told-as _ _ _ (c .before .enum-told .given .1) (c .numbered .ensures)
 
 -- src/lib.rt:70:1
 returns-2 : tie.Need-returns-2
-unfolding answerFrom
-returns-2 c = told-as _ _ _ _ (c .numbered2 .ensures) (c .before .enum-told2 .given .1) refl
+returns-2 c = told-as _ _ _ (c .before .enum-told2 .given .1) (c .numbered2 .ensures)
 
 -- src/lib.rt:70:1
 returns-3 : tie.Need-returns-3
-unfolding answerFrom
-returns-3 c = told-as _ _ _ _ (c .numbered3 .ensures) (c .before .before .answer .given .1) refl
+returns-3 c = told-as _ _ _ (c .before .before .answer .given .1) (c .numbered3 .ensures)
 
 -- src/lib.rt:70:1
 returns-4 : tie.Need-returns-4
-unfolding answerFrom
-returns-4 c = told-as _ _ _ _ (c .numbered4 .ensures) (c .before .enum-told3 .given .1) refl
+returns-4 c = told-as _ _ _ (c .before .enum-told3 .given .1) (c .numbered4 .ensures)
 
 -- src/lib.rt:70:1
 returns-5 : tie.Need-returns-5
-unfolding answerFrom
-returns-5 c = told-as _ _ _ _ (c .numbered5 .ensures) (c .before .before .answer2 .given .1) refl
+returns-5 c = told-as _ _ _ (c .before .before .answer2 .given .1) (c .numbered5 .ensures)
 
 -- src/lib.rt:70:1
 returns-6 : tie.Need-returns-6
-unfolding answerFrom
-returns-6 c = told-as _ _ _ _ (c .numbered6 .ensures) (c .before .before .answer3 .given .1) refl
+returns-6 c = told-as _ _ _ (c .before .before .answer3 .given .1) (c .numbered6 .ensures)
 
 -- src/lib.rt:70:1
 returns-7 : tie.Need-returns-7
-unfolding answerFrom
-returns-7 c = told-as _ _ _ _ (c .numbered7 .ensures) (c .before .before .answer4 .given .1) refl
+returns-7 c = told-as _ _ _ (c .before .before .answer4 .given .1) (c .numbered7 .ensures)
 
 -- src/lib.rt:70:1
 returns-8 : tie.Need-returns-8
-unfolding answerFrom
-returns-8 c = told-as _ _ _ _ (c .numbered8 .ensures) (c .before .before .before .answer5 .given .1) (ap refused (c .before .refusal-number .ensures))
+returns-8 c = told-as _ _ _ (c .before .before .before .answer5 .given .1) (c .numbered8 .ensures ∙ ap (λ (k : ℕ). numbersOf (refused k)) (c .before .refusal-number .ensures))
 
 pub numbers-spec : {M : Type 1} → statement M
 numbers-spec =

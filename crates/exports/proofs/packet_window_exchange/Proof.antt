@@ -23,7 +23,7 @@ same-length c = search needs
 returns : tie.Need-returns
 returns c =
     let t = c .before .before .before .exchange in
-    in-numbers _ _ _ (t .result) (c .in-numbers .result) _ _ _ _ _ (c .in-numbers .ensures) (t .ensures)
+    in-numbers _ _ _ (t .result) (c .in-numbers .result) _ _ (c .in-numbers .ensures) (t .ensures)
 
 pub packet-window-exchange-spec : {M : Type 1} → statement M
 packet-window-exchange-spec =

@@ -35,7 +35,7 @@ same-length-4 c = search needs
 returns : tie.Need-returns
 returns c =
     let t = c .before .before .before .before .before .before .before .before .before .remove in
-    in-numbers _ _ _ (t .result) (c .in-numbers .result) _ _ _ _ _ (c .in-numbers .ensures) (t .ensures)
+    in-numbers _ _ _ (t .result) (c .in-numbers .result) _ _ (c .in-numbers .ensures) (t .ensures)
 
 pub packet-window-remove-spec : {M : Type 1} → statement M
 packet-window-remove-spec =

@@ -27,7 +27,7 @@ same-length-3 c = search needs
 returns : tie.Need-returns
 returns c =
     let t = c .before .before .before .before .before .before .before .clear in
-    in-numbers _ _ _ (t .result) (c .in-numbers .result) _ _ _ _ _ (c .in-numbers .ensures) (t .ensures)
+    in-numbers _ _ _ (t .result) (c .in-numbers .result) _ _ (c .in-numbers .ensures) (t .ensures)
 
 pub packet-window-clear-spec : {M : Type 1} → statement M
 packet-window-clear-spec =
