@@ -1,44 +1,166 @@
 #!/usr/bin/env python3
-"""No exported call has a `requires`, and the axioms that the crates' checks report are those that README names.
+"""Every exported function has the contract of its own call, and the axioms are those that README names.
 
-Exported are the functions in C's calling convention (crates/exports), the calls behind them, which they name, and the
-line parser and printer. The logs of the last check are read, so the crates must be proved first.
+Exported are the calls of document 01 by value, their host forms, the functions in C's calling convention, and the line parser and
+printer. Of each this is asked: no `requires`, and as `ensures` nothing but the contract record of its kind, at the call of its own name
+with its own parameters in their order (`new`, which is no call, has a record of its own). The records themselves are asked to be
+the contract of every call at the whole step and the whole soundness. Every call of `Call` and `Query` is exported, and every
+exported function is of a call there, so that demand 3 speaks of it.
+
+    tests/exported.py               the test; the logs of the last check are read, so the crates must be proved first
+    tests/exported.py --selftest    wrong contracts, each of which must be noticed
 """
 import re
 import sys
 from pathlib import Path
 
 ROOT = Path(__file__).resolve().parent.parent
-FUNCTION = re.compile(r'^(?P<head>[^\S\n]*(?:pub )?(?:extern "C" )?fn (?P<name>\w+)\(.*?\n\{|[^\S\n]+pub fn (?P<own>\w+)\(.*?\n    \{)', re.DOTALL | re.MULTILINE)
-CALLS = ['new', 'insert', 'get', 'exchange', 'remove', 'successor_after', 'first_from', 'remove_range', 'clear',
-         'clear_bounded', 'release_retired', 'iter', 'stranger', 'check']
-# where the call of each name stands; others of the name are steps below it
-CRATES = ['window', 'reads', 'points', 'range_calls', 'checks']
+HEAD = re.compile(r'^(?P<indent>[^\S\n]*)(?P<head>(?:pub )?(?:extern "C" )?fn (?P<name>\w+)\((?P<parameters>[^)]*)\).*?)\n(?P=indent)\{', re.DOTALL | re.MULTILINE)
+LISTS = ['sequences', 'values', 'pages', 'blocks']
+# the crates of each kind of exported function: what stands before the call's name, the two records, and where they are defined
+BY_VALUE = ('', 'MeetsBy', 'MeetsInto', 'calls', 'Answers')
+KINDS = {
+    'reads': BY_VALUE,
+    'points': BY_VALUE,
+    'range_calls': BY_VALUE,
+    'checks': BY_VALUE,
+    'host': ('', 'HostMeetsBy', 'HostMeetsInto', 'host', 'Lent'),
+    'exports': ('packet_window_', 'NumbersMeetBy', 'NumbersMeetInto', 'exports', 'Numbers'),
+    'audit_exports': ('packet_window_', 'NumbersMeetBy', 'NumbersMeetInto', 'exports', 'Numbers'),
+    'host_exports': ('packet_window_host_', 'OutcomeMeetsBy', 'OutcomeMeetsInto', 'host_exports', 'Outcomes'),
+}
+# new: crate, function, record, where it is defined
+NEW = [('window', 'new', 'NewBy', 'window', 'New'), ('exports', 'packet_window_new', 'CreatesBy', 'exports', 'Numbers')]
 TEXT = {'text': ['parse'], 'lines': ['put_line', 'put_list', 'put_unknown']}
+# what the records say: each line stands in its file, word for word
+DEFINED = {
+    'crates/model/specs/Contract.antt': ['Does = DoesAs windowStep Sound', 'Meets = MeetsAs windowStep Sound'],
+    'crates/model/specs/Heads.antt': ['  pub meets : Meets (e .call) u list left'],
+    'crates/calls/specs/Answers.antt': [
+        'MeetsBy c w ss vs pages blocks r = Meets c (stateOf w (foundIn ss vs pages blocks)) [] (leftOf r (leftIn ss vs pages blocks) [])',
+        '    Meets (c (leb 384 (length (now (l .entry))))) (stateOf w (foundIn ss vs pages blocks)) (now (l .entry)) (leftOf r (leftIn ss vs pages blocks) (now (l .exit)))'],
+    'crates/host/specs/Lent.antt': [
+        'HostMeetsBy c w ss vs pages blocks r = Meets c (stateOf (now (w .entry)) (foundIn ss vs pages blocks)) [] (leftAt (now (w .exit)) r (leftIn ss vs pages blocks) [])',
+        '    Meets (c (leb 384 (length (now (l .entry))))) (stateOf (now (w .entry)) (foundIn ss vs pages blocks)) (now (l .entry))'],
+    'crates/exports/specs/Numbers.antt': [
+        '  pub numbers : r .answer ≡ numbersOf answer',
+        '  pub meets : Meets c u l (record { answer = answer; count = r .count; state = stateOf (r .window) m; list = l′ })'],
+    'crates/host_exports/specs/Outcomes.antt': [
+        '  pub numbers : r .answer ≡ numbersOf answer',
+        '  pub meets : Meets c u l (record { answer = answer; count = r .count; state = stateOf w m; list = l′ })'],
+}
 AXIOMS = {'windowlines': 'libc::read, libc::write'}
 
 
-def functions(crate):
-    """Name and head, up to the body, of each function of a crate."""
-    for path in sorted((ROOT / 'crates' / crate / 'src').glob('**/*.rt')):
-        for found in FUNCTION.finditer(path.read_text()):
-            yield found['name'] or found['own'], found['head']
+class Function:
+    def __init__(self, crate, path, found):
+        self.crate, self.path, self.name, self.head = crate, path, found['name'], found['head']
+        self.parameters = [p.split(':')[0].strip() for p in found['parameters'].split(',') if p.strip()]
+        self.contracts = [' '.join(text.split()) for text in re.findall(r'ensures \{ λ r\. ⌜(.*?)⌝ \}', self.head, re.DOTALL)]
+
+    def wrong(self, text):
+        return f'{self.crate}::{self.name}: {text}'
 
 
-def exported():
-    for crate in ['exports', 'audit_exports', 'host_exports', 'host']:
-        if (ROOT / 'crates' / crate).is_dir():
-            for name, head in functions(crate):
-                if 'extern "C"' in head or crate == 'host' and 'pub fn' in head:
-                    yield crate, name, head
-    for crate in CRATES:
-        for name, head in functions(crate):
-            if name in CALLS and 'pub fn' in head:
-                yield crate, name, head
+def functions(texts, crate):
+    for path, text in texts.items():
+        if path.startswith(f'crates/{crate}/src/'):
+            for found in HEAD.finditer(text):
+                yield Function(crate, path, found)
+
+
+def imports(text, module):
+    """The names that a file takes from a module of specs, by the name it uses: {used: original}."""
+    names = {}
+    for line in re.findall(rf'^ghost use Rattle\.{module}\.\{{(.*)\}};$', text, re.MULTILINE):
+        for name in line.split(', '):
+            names[name.split()[-1]] = name.split()[0]
+    return names
+
+
+def specs(crate, own, module):
+    return rf'{crate}(?:·specs)?\.specs\.{module}' if own else rf'{crate}\.specs\.{module}'
+
+
+def constructors(texts):
+    """The calls of the model: {name: whether it is a query}."""
+    text = texts['crates/model/specs/Calls.antt']
+    found = {}
+    for kind, query in (('Query', True), ('Call', False)):
+        block = re.search(rf'^pub data {kind} : Type 0 where\n((?:  .*\n)+)', text, re.MULTILINE)[1]
+        for name in re.findall(r'^  ([\w-]+) :', block, re.MULTILINE):
+            if name != 'ask':
+                found[name.replace('-', '_')] = query
+    return found
+
+
+def contract(function, call, query, kind, text):
+    """What the `ensures` of an exported function of this call must be."""
+    prefix, by, into, crate, module = kind
+    listed = 'returned' in function.parameters
+    lists = LISTS + ['returned'] if listed else LISTS
+    record = into if listed else by
+    arguments = [p for p in function.parameters if p not in ['w'] + lists]
+    calls = [used for used, name in imports(text, r'model\.specs\.Calls').items() if name == call.replace('_', '-')]
+    records = imports(text, specs(crate, crate == function.crate, module))
+    if records.get(record) != record:
+        return f'{record} does not come from crates/{crate}/specs/{module}.antt'
+    wanted = []
+    for used in calls:
+        made = f"({' '.join([used] + arguments)})" if arguments else used
+        made = f'(ask {made})' if query else made
+        wanted.append(f"{record} {made} w {' '.join(lists)} r")
+    if function.contracts not in [[text] for text in wanted]:
+        return f'its contract is {function.contracts}, not {wanted}'
+    return None
+
+
+def problems(texts):
+    """What is wrong with the contracts in these files, and the exported functions."""
+    wrong, calls, seen = [], constructors(texts), {}
+    for crate, kind in KINDS.items():
+        for function in functions(texts, crate):
+            name = function.name.removeprefix(kind[0])
+            exported = 'extern "C"' in function.head if kind[0] else 'pub fn' in function.head and (crate == 'host' or name in calls)
+            if not exported or (crate, function.name) in [new[:2] for new in NEW]:
+                continue
+            seen[crate, function.name] = function
+            if name not in calls:
+                wrong.append(function.wrong('no call of Call or Query has this name'))
+                continue
+            said = contract(function, name, calls[name], kind, texts[function.path])
+            wrong += [function.wrong(said)] if said else []
+    for crate, name, record, home, module in NEW:
+        for function in functions(texts, crate):
+            if function.name == name and 'pub' in function.head:
+                seen[crate, name] = function
+                numbers = [f'«{p}»' if '_' in p else p for p in function.parameters if p not in LISTS]
+                wanted = f"{record} {' '.join(numbers)} {' '.join(LISTS)} r"
+                if function.contracts != [wanted] or imports(texts[function.path], specs(home, home == crate, module)).get(record) != record:
+                    wrong.append(function.wrong(f'its contract is {function.contracts}, not {wanted!r}'))
     for crate, names in TEXT.items():
-        for name, head in functions(crate):
-            if name in names:
-                yield crate, name, head
+        for function in functions(texts, crate):
+            if function.name in names and 'pub' in function.head:
+                seen[crate, function.name] = function
+                if len(function.contracts) != 1:
+                    wrong.append(function.wrong('it has no ensures'))
+    wrong += [function.wrong('it has a requires') for function in seen.values() if 'requires {' in function.head]
+    names = {name for crate, name in seen}
+    wrong += [f'{name} is not exported by value' for name in calls if name not in {n for c, n in seen if KINDS.get(c) == BY_VALUE}]
+    wrong += [f'packet_window_{name} was not found' for name in [*calls, 'new'] if f'packet_window_{name}' not in names]
+    wrong += [f'{name} was not found' for names_ in TEXT.values() for name in names_ if name not in names]
+    for path, lines in DEFINED.items():
+        wrong += [f'{path} does not say: {line.strip()}' for line in lines if line not in texts[path].splitlines()]
+    return wrong, list(seen.values())
+
+
+def found(texts):
+    return problems(texts)[1]
+
+
+def read():
+    paths = [*ROOT.glob('crates/*/src/**/*.rt'), *ROOT.glob('crates/*/specs/*.antt')]
+    return {str(path.relative_to(ROOT)): path.read_text() for path in paths}
 
 
 def axioms(crate):
@@ -46,14 +168,52 @@ def axioms(crate):
     return ', '.join(re.findall(r'^axioms \w+: (.*?) \(', log, re.MULTILINE))
 
 
+# each wrong contract: file, old text, new text
+WRONG = [
+    # a reflexivity for a contract
+    ('crates/audit_exports/src/lib.rt', 'NumbersMeetBy (ask (strangerOf first last)) w sequences values pages blocks r', 'r ≡ r'),
+    # the contract of another call
+    ('crates/audit_exports/src/lib.rt', 'NumbersMeetBy (ask (strangerOf first last))', 'NumbersMeetBy (ask checkOf)'),
+    ('crates/points/src/remove.rt', 'remove as removeOf', 'exchange as removeOf'),
+    # another argument
+    ('crates/reads/src/stranger.rt', 'MeetsBy (ask (strangerOf first last))', 'MeetsBy (ask (strangerOf first first))'),
+    # the contract of an inner function: what the call does, without its refusals
+    ('crates/reads/src/lib.rt', 'MeetsBy (ask (getOf sequence)) w sequences values pages blocks r', 'AdmittedBy (ask (getOf sequence)) w sequences values pages blocks r'),
+    # a record of the same name from elsewhere
+    ('crates/reads/src/lib.rt', 'Rattle.calls.specs.Answers.{MeetsBy}', 'Rattle.reads.specs.Contracts.{MeetsBy}'),
+    # the contract of every call at what the call does, not at the whole step; on no window
+    ('crates/model/specs/Contract.antt', 'Meets = MeetsAs windowStep Sound', 'Meets = MeetsAs windowDoes Sound'),
+    ('crates/model/specs/Contract.antt', 'Meets = MeetsAs windowStep Sound', 'Meets = MeetsAs windowStep (λ w. ⊥)'),
+    # what can be asked of no caller
+    ('crates/reads/src/lib.rt', 'ensures { λ r. ⌜ MeetsBy (ask (getOf sequence))', 'requires { ⌜ ListsFit w sequences values pages blocks ⌝ }\n    ensures { λ r. ⌜ MeetsBy (ask (getOf sequence))'),
+    # an exported call that is no call of the model, and a call that is not exported
+    ('crates/model/specs/Calls.antt', '  stranger : (first last : ℕ) → Query\n', ''),
+    ('crates/audit_exports/src/lib.rt', 'fn packet_window_check(', 'fn packet_window_checked('),
+    # new
+    ('crates/exports/src/lib.rt', 'CreatesBy «window_size» n «demote_at»', 'CreatesBy «window_size» n n'),
+    ('crates/host/src/lib.rt', 'HostMeetsBy (removeOf sequence) w', 'HostMeetsBy (removeOf 0) w'),
+    ('crates/host_exports/src/lib.rt', 'OutcomeMeetsInto (release-retired budget)', 'OutcomeMeetsInto (release-retired 256)'),
+]
+
+
+def selftest():
+    texts = read()
+    missed = problems(texts)[0]
+    for path, old, new in WRONG:
+        if texts[path].count(old) != 1:
+            missed.append(f'{path}: the old text stands {texts[path].count(old)} times: {old!r}')
+        elif not problems({**texts, path: texts[path].replace(old, new)})[0]:
+            missed.append(f'{path}: not noticed: {new!r}')
+    for line in missed:
+        print(line)
+    print(f'{len(WRONG)} wrong contracts, each noticed')
+    return 1 if missed else 0
+
+
 def main():
-    seen = list(exported())
-    wrong = [f'{crate}::{name} has a requires' for crate, name, head in seen if 'requires {' in head]
-    wrong += [f'{crate}::{name} has no ensures' for crate, name, head in seen if 'ensures {' not in head]
-    missing = set(CALLS) - {name for crate, name, head in seen if crate in CRATES}
-    missing |= {name for name in CALLS if f'packet_window_{name}' not in [other for crate, other, head in seen]}
-    missing |= {name for names in TEXT.values() for name in names} - {name for crate, name, head in seen if crate in TEXT}
-    wrong += [f'{name} was not found' for name in sorted(missing)]
+    if sys.argv[1:] == ['--selftest']:
+        return selftest()
+    wrong, seen = problems(read())
     crates = [line.split(':')[0] for line in (ROOT / 'crates.txt').read_text().splitlines() if line and line[0] != '#']
     for crate in crates:
         if axioms(crate) != AXIOMS.get(crate, ''):
@@ -62,7 +222,7 @@ def main():
     wrong += [f'README does not name {name}' for name in ('libc::read', 'libc::write') if name not in readme]
     for line in wrong:
         print(line)
-    print(f'{len(seen)} exported functions without requires, 2 axioms in {len(crates)} crates')
+    print(f'{len(seen)} exported functions, each with the contract of its own call, 2 axioms in {len(crates)} crates')
     return 1 if wrong else 0
 
 

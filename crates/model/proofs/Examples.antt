@@ -1,20 +1,23 @@
--- Document 01's listing and its edge cases marked *, as one list each, by computation on the definitions. Assumes nothing.
+-- Document 01's listing, its edge cases marked * as one list, its traps, stranger's cases and the order of refusals, by computation
+-- on the definitions. Assumes nothing.
 use mathlib.Core.Path.{_≡_, refl}
-use mathlib.Core.Bool.{true}
+use mathlib.Core.Bool.{true, false}
 use mathlib.Core.Option.{some}
 use mathlib.Core.List.{List, [], _∷_, _++_}
-use Prim.Native.Nat.{ℕ, zero, suc, _+_}
+use Prim.Native.Nat.{ℕ, zero, suc, _+_, _*_}
+use lib.ListN.{length, replicate}
 use Rattle.words.specs.First.{firstFrom, firstRound}
 use Rattle.words.specs.Word.{bitAt, withBit, countBelow, span, wordBelow, lowest}
-use Rattle.window.specs.Memory.{capacity}
-use Rattle.window.specs.Refusals.{limits}
-use Rattle.window.specs.New.{fresh as freshHeader}
-use Rattle.model.specs.Calls.{successor-after, Call, insert, ask, remove-range, clear, clear-bounded, release-retired, Answer, done, new, absent, found, released, refused}
-use Rattle.model.specs.Table.{pairOf, fresh, at, rangeCount, sum, heldInRange, searchFrom, tableStep, tableDoes}
+use Rattle.window.specs.Memory.{Memory, memory, capacity, pageCount, blockCount}
+use Rattle.window.specs.Refusals.{limits, longEnough}
+use Rattle.window.specs.New.{fresh as freshHeader, made, refused as notMade, newResult, cleared, shortMemory, newOf}
+use Rattle.model.specs.Calls.{get, successor-after, first-from, iter, stranger, check, Call, insert, exchange, remove, ask, remove-range, clear, clear-bounded, release-retired, Answer, done, new, absent, found, pair, released, refused}
+use Rattle.model.specs.Table.{pairOf, fresh, at, rangeCount, sum, heldInRange, searchFrom, strangerIn, known, argumentRefusal, tableStep, tableDoes}
 use Rattle.model.specs.Positions.{Positions, positions, plain, drain, inPage, sweep, sweepRange, release, step, does}
-use Rattle.model.specs.Window.{Window, window, noPage, noBlock, cellOf}
+use Rattle.model.specs.Window.{Window, decode, freshWindow, cellOf, iterStep}
 use Rattle.model.specs.Pages.{freeCell, promoted, nthSet, packed, insertPage, drainPage}
-use Rattle.model.specs.Steps.{noteNonempty, splitBlock, releasePage, nextRetired, releaseUnits, revive, removeSlots, retireInBlock, retireBlock, retireBlocks, retirePages, retireStretch, retireRange, retireAll, releasePages, insertStep, rangeStep, clearStep, clearBoundedStep, releaseStep, windowStep, windowDoes, Effect}
+use Rattle.model.specs.Steps.{noteNonempty, splitBlock, releasePage, nextRetired, releaseUnits, revive, removeSlots, retireInBlock, retireBlock, retireBlocks, retirePages, retireStretch, retireRange, retireAll, releasePages, insertStep, exchangeStep, removeStep, rangeStep, clearStep, clearBoundedStep, releaseStep, windowStep, windowDoes, Effect}
+use Rattle.model.proofs.Beginning.{new-window}
 
 -- a line of output: answer, len, retired_held, promotions, demotions, dropped values
 record Line : Type 0 where
@@ -40,8 +43,13 @@ abbrev after : Window → List Call → Window
 after w [] = w
 after w (c ∷ cs) = after (windowStep w c .after) cs
 
-abbrev freshWindow : ℕ → ℕ → ℕ → Window
-freshWindow size n d = window (freshHeader size n d) (λ g. noPage) (λ b. noBlock)
+-- memory as long as window_size names it, and what an accepted `new` leaves of it
+abbrev lent : ℕ → Memory
+lent size =
+    memory (replicate (capacity size) 0) (replicate (capacity size) 0) (replicate (3 * pageCount size) 0) (replicate (3 * blockCount size) 0)
+
+abbrev afterNew : ℕ → ℕ → ℕ → Window
+afterNew size n d = freshWindow size n d (lent size)
 
 -- the n numbers from k upwards; the inserts of n sequences from 0 upwards, each with its own number as value
 abbrev from : ℕ → ℕ → List ℕ
@@ -52,11 +60,11 @@ abbrev insertsFrom : ℕ → ℕ → List Call
 insertsFrom s zero = []
 insertsFrom s (suc n) = insert s s true ∷ insertsFrom (suc s) n
 
-listing : lines (freshWindow 64 2 1)
+listing : lines (afterNew 64 2 1)
     (insert 5 50 true ∷ insert 69 51 true ∷ insert 6 60 true ∷ insert 7 70 true ∷ remove-range 6 7 true ∷ clear true ∷ ask (successor-after 5) ∷ [])
     ≡ line new 1 0 0 0 [] ∷ line (refused 4) 1 0 0 0 [] ∷ line new 2 0 0 0 [] ∷ line new 3 0 1 0 []
     ∷ line (found 2) 1 0 1 1 (60 ∷ 70 ∷ []) ∷ line done 0 0 1 1 (50 ∷ []) ∷ line absent 0 0 1 1 [] ∷ []
-unfolding firstFrom firstRound bitAt withBit countBelow span wordBelow lowest capacity freshHeader rangeCount sum heldInRange searchFrom cellOf freeCell promoted nthSet packed insertPage drainPage noteNonempty splitBlock releasePage nextRetired releaseUnits revive removeSlots retireStretch retireRange retireAll insertStep rangeStep clearStep windowDoes
+unfolding firstFrom firstRound bitAt withBit countBelow span wordBelow lowest capacity freshHeader freshWindow rangeCount sum heldInRange searchFrom cellOf freeCell promoted nthSet packed insertPage drainPage noteNonempty splitBlock releasePage nextRetired releaseUnits revive removeSlots retireStretch retireRange retireAll insertStep rangeStep clearStep windowDoes
 listing = refl
 
 -- "At window_size 64, range 2147483647..0 is positions 63 and 0": over positions, and in the plain table
@@ -68,34 +76,98 @@ range-over-half : (step 64 twoPairs (remove-range 2147483647 0 true) .returned �
 unfolding twoPairs does tableDoes capacity firstFrom firstRound rangeCount sum heldInRange drain inPage sweep sweepRange release
 range-over-half = (refl, refl)
 
-edge-cases :
+-- a memory that is long enough for window_size
+abbrev Long : ℕ → Memory → Type 0
+Long size m = longEnough size (length (m .sequences)) (length (m .values)) (length (m .pages)) (length (m .blocks)) ≡ true
+
+-- what a new answers that takes these numbers
+abbrev Taken : Memory → ℕ → ℕ → ℕ → Type 0
+Taken m size n d = Long size m → newOf m size n d ≡ newResult (made (freshHeader size n d)) (cleared size m)
+
+abbrev RefusedBy : ℕ → Memory → ℕ → ℕ → ℕ → Type 0
+RefusedBy k m size n d = newOf m size n d ≡ newResult (notMade k) m
+
+taken : (m : Memory) (size n d : ℕ) → limits size n d ≡ 0 → Taken m size n d
+unfolding newOf shortMemory
+taken m size n d e long = rw (e, long)
+
+refused-by : (k : ℕ) (m : Memory) (size n d : ℕ) → limits size n d ≡ suc k → RefusedBy (suc k) m size n d
+unfolding newOf
+refused-by k m size n d e = rw e
+
+-- the window that an accepted new leaves is the one that the cases below begin with
+new-leaves : (size n d : ℕ) → decode (freshHeader size n d) (cleared size (lent size)) ≡ afterNew size n d
+new-leaves size n d = new-window size n d (lent size)
+
+edge-cases : (m : Memory)
     -- window_size 0 refused 1; 65536 taken; 65537 refused 1
-    (limits 0 8 2 ≡ 1) × (limits 65536 8 2 ≡ 0) × (limits 65537 8 2 ≡ 1)
+    → RefusedBy 1 m 0 8 2 × Taken m 65536 8 2 × RefusedBy 1 m 65537 8 2
     -- N 63 taken, 64 refused 2
-    × (limits 64 63 0 ≡ 0) × (limits 64 64 0 ≡ 2)
+    × Taken m 64 63 0 × RefusedBy 2 m 64 64 0
     -- demote_at N taken, N+1 refused 3
-    × (limits 64 8 8 ≡ 0) × (limits 64 8 9 ≡ 3)
+    × Taken m 64 8 8 × RefusedBy 3 m 64 8 9
     -- window_size 65: 5 and 70 both enter, 133 after 5 is refused 4
-    × (lines (freshWindow 65 8 2) (insert 5 1 true ∷ insert 70 2 true ∷ insert 133 3 true ∷ [])
+    × (lines (afterNew 65 8 2) (insert 5 1 true ∷ insert 70 2 true ∷ insert 133 3 true ∷ [])
     ≡ line new 1 0 0 0 [] ∷ line new 2 0 0 0 [] ∷ line (refused 4) 2 0 0 0 [] ∷ [])
     -- 5, then 2147483653: refused 4
-    × (lines (freshWindow 64 8 2) (insert 5 1 true ∷ insert 2147483653 2 true ∷ []) ≡ line new 1 0 0 0 [] ∷ line (refused 4) 1 0 0 0 [] ∷ [])
+    × (lines (afterNew 64 8 2) (insert 5 1 true ∷ insert 2147483653 2 true ∷ []) ≡ line new 1 0 0 0 [] ∷ line (refused 4) 1 0 0 0 [] ∷ [])
     -- window_size 64: range 0..63 taken, 0..64 refused 5, 5..4 refused 5
-    × (lines (freshWindow 64 8 2) (insert 5 1 true ∷ remove-range 0 64 true ∷ remove-range 5 4 true ∷ remove-range 0 63 true ∷ [])
+    × (lines (afterNew 64 8 2) (insert 5 1 true ∷ remove-range 0 64 true ∷ remove-range 5 4 true ∷ remove-range 0 63 true ∷ [])
     ≡ line new 1 0 0 0 [] ∷ line (refused 5) 1 0 0 0 [] ∷ line (refused 5) 1 0 0 0 [] ∷ line (found 1) 0 0 0 0 (1 ∷ []) ∷ [])
     -- At window_size 64, range 2147483647..0 is positions 63 and 0
-    × (lines (freshWindow 64 8 2) (insert 0 10 true ∷ insert 1 11 true ∷ insert 62 12 true ∷ insert 63 13 true ∷ remove-range 2147483647 0 true ∷ [])
+    × (lines (afterNew 64 8 2) (insert 0 10 true ∷ insert 1 11 true ∷ insert 62 12 true ∷ insert 63 13 true ∷ remove-range 2147483647 0 true ∷ [])
     ≡ line new 1 0 0 0 [] ∷ line new 2 0 0 0 [] ∷ line new 3 0 0 0 [] ∷ line new 4 0 0 0 [] ∷ line (found 2) 2 0 0 0 (13 ∷ 10 ∷ []) ∷ [])
     -- Only 9 live: successor_after(9) is 9
-    × (lines (freshWindow 64 8 2) (insert 9 1 true ∷ ask (successor-after 9) ∷ []) ≡ line new 1 0 0 0 [] ∷ line (found 9) 1 0 0 0 [] ∷ [])
+    × (lines (afterNew 64 8 2) (insert 9 1 true ∷ ask (successor-after 9) ∷ []) ≡ line new 1 0 0 0 [] ∷ line (found 9) 1 0 0 0 [] ∷ [])
     -- Budget 256 taken, 257 refused 8
-    × (lines (freshWindow 64 8 2) (release-retired 256 true ∷ release-retired 257 true ∷ clear-bounded 257 true ∷ clear-bounded 256 true ∷ [])
+    × (lines (afterNew 64 8 2) (release-retired 256 true ∷ release-retired 257 true ∷ clear-bounded 257 true ∷ clear-bounded 256 true ∷ [])
     ≡ line (released 0 0) 0 0 0 0 [] ∷ line (refused 8) 0 0 0 0 [] ∷ line (refused 8) 0 0 0 0 [] ∷ line (found 0) 0 0 0 0 [] ∷ [])
     -- Window 512, N 8, sequences 0..511 in, clear: 252 released, 260 retired; release_retired(1): 0 released, 1 unit; then (2): 1 and 2
-    × (lines (after (freshWindow 512 8 0) (insertsFrom 0 512)) (clear true ∷ release-retired 1 true ∷ release-retired 2 true ∷ [])
+    × (lines (after (afterNew 512 8 0) (insertsFrom 0 512)) (clear true ∷ release-retired 1 true ∷ release-retired 2 true ∷ [])
     ≡ line done 0 260 8 0 (from 0 252) ∷ line (released 0 1) 0 260 8 0 [] ∷ line (released 1 2) 0 259 8 0 (252 ∷ []) ∷ [])
     -- Straight after that clear, insert 100 drops nothing; insert 250 drops the values of 252..255
-    × (lines (after (freshWindow 512 8 0) (insertsFrom 0 512 ++ clear true ∷ [])) (insert 100 1 true ∷ insert 250 2 true ∷ [])
+    × (lines (after (afterNew 512 8 0) (insertsFrom 0 512 ++ clear true ∷ [])) (insert 100 1 true ∷ insert 250 2 true ∷ [])
     ≡ line new 1 260 8 0 [] ∷ line new 2 256 8 0 (from 252 4) ∷ [])
-unfolding limits firstFrom firstRound bitAt withBit countBelow span wordBelow lowest capacity freshHeader rangeCount sum heldInRange searchFrom cellOf freeCell promoted nthSet packed insertPage drainPage noteNonempty splitBlock releasePage nextRetired releaseUnits revive removeSlots retireInBlock retireBlock retireBlocks retirePages retireStretch retireRange retireAll releasePages insertStep rangeStep clearStep clearBoundedStep releaseStep windowDoes
-edge-cases = (refl, refl, refl, refl, refl, refl, refl, refl, refl, refl, refl, refl, refl, refl, refl)
+unfolding limits firstFrom firstRound bitAt withBit countBelow span wordBelow lowest capacity freshHeader freshWindow rangeCount sum heldInRange searchFrom cellOf freeCell promoted nthSet packed insertPage drainPage noteNonempty splitBlock releasePage nextRetired releaseUnits revive removeSlots retireInBlock retireBlock retireBlocks retirePages retireStretch retireRange retireAll releasePages insertStep rangeStep clearStep clearBoundedStep releaseStep windowDoes
+edge-cases m = (refused-by 0 m 0 8 2 refl, taken m 65536 8 2 refl, refused-by 0 m 65537 8 2 refl, taken m 64 63 0 refl, refused-by 1 m 64 64 0 refl, taken m 64 8 8 refl, refused-by 2 m 64 8 9 refl, refl, refl, refl, refl, refl, refl, refl, refl)
+
+-- ---- the traps
+
+traps :
+    -- "counting a demotion for an emptied page", and "demoting after each value of a range": a dense page of three is emptied
+    (lines (after (afterNew 64 2 2) (insertsFrom 5 3)) (remove-range 5 7 true ∷ []) ≡ line (found 3) 0 0 1 0 (5 ∷ 6 ∷ 7 ∷ []) ∷ [])
+    -- a range that leaves 2 of 4, and a removal that leaves 1 of 2
+    × (lines (after (afterNew 64 2 2) (insertsFrom 5 4)) (remove-range 5 6 true ∷ []) ≡ line (found 2) 2 0 1 1 (5 ∷ 6 ∷ []) ∷ [])
+    × (lines (after (afterNew 64 1 1) (insertsFrom 5 2)) (remove 5 ∷ remove 6 ∷ []) ≡ line (found 5) 1 0 1 1 [] ∷ line (found 6) 0 0 1 1 [] ∷ [])
+    -- "testing the page mark but not the block mark": after a clear that releases not all, nothing is found, and iter is done
+    × (lines (after (afterNew 512 8 0) (insertsFrom 0 512)) (clear true ∷ ask (get 500) ∷ ask (first-from 0) ∷ ask (iter 0) ∷ [])
+    ≡ line done 0 260 8 0 (from 0 252) ∷ line absent 0 260 8 0 [] ∷ line absent 0 260 8 0 [] ∷ line done 0 260 8 0 [] ∷ [])
+    -- "taking a sparse page's lowest position for its lowest cell": 9 came first and is in cell 0; its cell serves again
+    × (lines (afterNew 64 8 2) (insert 9 90 true ∷ insert 5 50 true ∷ ask (iter 0) ∷ remove 9 ∷ insert 7 70 true ∷ ask (iter 0) ∷ [])
+    ≡ line new 1 0 0 0 [] ∷ line new 2 0 0 0 [] ∷ line (pair 9 90 1) 2 0 0 0 [] ∷ line (found 90) 1 0 0 0 [] ∷ line new 2 0 0 0 [] ∷ line (pair 7 70 1) 2 0 0 0 [] ∷ [])
+unfolding firstFrom firstRound bitAt withBit countBelow span wordBelow lowest capacity freshHeader freshWindow rangeCount sum heldInRange searchFrom cellOf freeCell promoted nthSet packed insertPage drainPage noteNonempty splitBlock releasePage nextRetired releaseUnits revive removeSlots retireInBlock retireBlock retireBlocks retirePages retireStretch retireRange retireAll releasePages insertStep rangeStep clearStep clearBoundedStep releaseStep windowDoes  iterStep exchangeStep removeStep
+traps = (refl, refl, refl, refl, refl)
+
+-- ---- stranger: none in an empty window, none in its own range, an alias, a set top bit
+
+strangers :
+    lines (afterNew 64 8 2) (ask (stranger 5 5) ∷ insert 5 50 true ∷ ask (stranger 5 5) ∷ ask (stranger 4 6) ∷ ask (stranger 69 69) ∷ remove 5 ∷ insert 2147483653 51 true ∷ ask (stranger 5 5) ∷ ask (stranger 6 9) ∷ [])
+    ≡ line absent 0 0 0 0 [] ∷ line new 1 0 0 0 [] ∷ line absent 1 0 0 0 [] ∷ line absent 1 0 0 0 [] ∷ line (pair 5 50 0) 1 0 0 0 []
+    ∷ line (found 50) 0 0 0 0 [] ∷ line new 1 0 0 0 [] ∷ line (pair 2147483653 51 0) 1 0 0 0 [] ∷ line absent 1 0 0 0 [] ∷ []
+unfolding firstFrom firstRound bitAt withBit countBelow span wordBelow lowest capacity freshHeader freshWindow rangeCount sum heldInRange searchFrom cellOf freeCell promoted nthSet packed insertPage drainPage noteNonempty splitBlock releasePage nextRetired releaseUnits revive removeSlots retireInBlock retireBlock retireBlocks retirePages retireStretch retireRange retireAll releasePages insertStep rangeStep clearStep clearBoundedStep releaseStep windowDoes removeStep strangerIn
+strangers = refl
+
+-- ---- the order of the refusals for arguments: 6, then 5 or 8
+
+order :
+    (argumentRefusal (known 64) (insert 5 1 false) ≡ 6) × (argumentRefusal (known 64) (insert 5 1 true) ≡ 0)
+    × (argumentRefusal (known 64) (exchange 5 1) ≡ 0) × (argumentRefusal (known 64) (remove 5) ≡ 0)
+    × (argumentRefusal (known 64) (remove-range 0 64 false) ≡ 6) × (argumentRefusal (known 64) (remove-range 0 64 true) ≡ 5) × (argumentRefusal (known 64) (remove-range 0 63 true) ≡ 0)
+    × (argumentRefusal (known 64) (clear false) ≡ 6) × (argumentRefusal (known 64) (clear true) ≡ 0)
+    × (argumentRefusal (known 64) (clear-bounded 257 false) ≡ 6) × (argumentRefusal (known 64) (clear-bounded 257 true) ≡ 8) × (argumentRefusal (known 64) (clear-bounded 256 true) ≡ 0)
+    × (argumentRefusal (known 64) (release-retired 257 false) ≡ 6) × (argumentRefusal (known 64) (release-retired 257 true) ≡ 8) × (argumentRefusal (known 64) (release-retired 256 true) ≡ 0)
+    × (argumentRefusal (known 64) (ask (get 5)) ≡ 0) × (argumentRefusal (known 64) (ask (successor-after 5)) ≡ 0) × (argumentRefusal (known 64) (ask (first-from 5)) ≡ 0)
+    × (argumentRefusal (known 64) (ask (iter 64)) ≡ 0) × (argumentRefusal (known 64) (ask check) ≡ 0)
+    × (argumentRefusal (known 64) (ask (stranger 5 4)) ≡ 5) × (argumentRefusal (known 64) (ask (stranger 0 63)) ≡ 0)
+unfolding rangeCount
+order = (refl, refl, refl, refl, refl, refl, refl, refl, refl, refl, refl, refl, refl, refl, refl, refl, refl, refl, refl, refl, refl, refl)

@@ -1,6 +1,7 @@
 -- Document 01 on new: "1 for window_size outside 1..65536, 2 for N outside 1..63, 3 for demote_at above N, 6 for short memory, in this
 -- order. It sets every page and block word and the header's other fields to 0 and writes nothing else."
 -- Definitions only; their laws are in NewLaws. Assumes nothing.
+use mathlib.Core.Path.{_≡_}
 use mathlib.Core.Bool.{cond}
 use Prim.Native.Nat.{ℕ, zero, suc, _*_}
 use lib.ListN.{length}
@@ -9,6 +10,7 @@ use Rattle.window.specs.declared.Created.{Created}
 use Rattle.window.specs.declared.Created.the-variants.{New, Refused}
 use Rattle.window.specs.Memory.{Memory, memory, pageCount, blockCount, zeroed}
 use Rattle.window.specs.Refusals.{refusalNumber, limits, longEnough}
+use Rattle.window.specs.Lent.{Lent, foundIn, leftIn}
 
 -- what new answers in document 01's terms: the new header, or the number of a refusal
 pub data NewAnswer : Type 0 where
@@ -63,3 +65,7 @@ newOf m size n demoteAt =
     unlessRefused (limits size n demoteAt) m
     (unlessRefused (shortMemory size m) m
     (newResult (made (fresh size n demoteAt)) (cleared size m)))
+
+-- as a signature says it
+abbrev pub NewBy : (size n demoteAt : ℕ) → (sequences values pages blocks : Lent) → Created → Type 0
+NewBy size n demoteAt ss vs pages blocks r = newResult (answerOf r) (leftIn ss vs pages blocks) ≡ newOf (foundIn ss vs pages blocks) size n demoteAt

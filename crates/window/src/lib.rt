@@ -12,8 +12,7 @@ use refusals::Verdict;
 use refusals::limits;
 use refusals::long_enough;
 ghost use mathlib.Core.Path.{_≡_};
-ghost use Rattle.window.specs.Memory.{memory as memoryOf};
-ghost use Rattle.window.specs.New.{answerOf, newResult, newOf, fresh as freshOf};
+ghost use Rattle.window.specs.New.{NewBy, fresh as freshOf};
 
 #[repr(C)]
 pub struct AdaptiveReceiverPacketWindow {
@@ -56,8 +55,7 @@ impl AdaptiveReceiverPacketWindow {
         n: u32,
         demote_at: u32,
     ) -> Created
-        ensures { λ r. ⌜ newResult (answerOf r) (memoryOf (now (sequences .exit)) (now (values .exit)) (now (pages .exit)) (now (blocks .exit)))
-            ≡ newOf (memoryOf (now (sequences .entry)) (now (values .entry)) (now (pages .entry)) (now (blocks .entry))) «window_size» n «demote_at» ⌝ }
+        ensures { λ r. ⌜ NewBy «window_size» n «demote_at» sequences values pages blocks r ⌝ }
     {
         let verdict = limits(window_size, n, demote_at);
         if let Verdict::Refuse(why) = verdict {
