@@ -1,87 +1,70 @@
 -- insert, over plain variables: the page is made live, and then the insert is one into a live page; k is what `reachable` says of
 -- the page. Assumes nothing.
 use mathlib.Core.Path.{_≡_, sym, ap, _∙_, subst}
-use mathlib.Core.Bool.{Bool, true, false, true≢false}
+use mathlib.Core.Bool.{Bool}
 use mathlib.Core.List.{List}
-use Prim.Native.Nat.{ℕ, _+_, _*_, _/_, _≤_, _<_}
-use native.Mathlib.Omega.{arith}
+use Prim.Native.Nat.{ℕ, _/_, _≤_}
 use native.Mathlib.Decide.{ℕ-discrete}
-use lib.Dec.{leb}
+use native.Mathlib.Omega.{arith}
 use lib.ListN.{length}
+use Rattle.words.specs.Cases.{bool}
 use Rattle.window.specs.declared.AdaptiveReceiverPacketWindow.{AdaptiveReceiverPacketWindow}
-use Rattle.window.specs.declared.answers.Answer.{Answer}
-use Rattle.window.specs.declared.answers.Answer.the-variants.{Refused}
 use Rattle.window.specs.declared.answers.Step.{Step}
-use Rattle.window.specs.declared.refusals.Refusal.the-variants.{Unsound}
-use Rattle.window.specs.Memory.{memory, position}
-use Rattle.window.specs.Refusals.{Fits}
+use Rattle.window.specs.Memory.{Memory, memory, position}
 use Rattle.model.specs.Calls.{insert}
 use Rattle.releases.specs.declared.PageReleased.{PageReleased}
 use Rattle.calls.specs.Answers.{stateOf, leftOf}
-use Rattle.calls.specs.Contracts.{Reachable}
-use Rattle.calls.specs.MeetsLaws.{Writes}
-use Rattle.points.specs.declared.insert.Put.{Put}
-use Rattle.points.specs.Contracts.{InsertsLive, LiveAnswer, MakesLive}
-use Rattle.points.proofs.Exchanging.{cells-in}
-use Rattle.points.proofs.Inserting.{retired-writes, live-writes}
-use Rattle.points.proofs.Reviving.{unsound-gives, retired-gives}
+use Rattle.calls.specs.Contracts.{Reachable, Admitted}
+use Rattle.points.specs.Contracts.{InsertsLive, MakesLive, Enters}
+use Rattle.points.proofs.Placing.{FitsIn}
+use Rattle.points.proofs.Reaching.{inside}
+use Rattle.points.proofs.Reviving.{InsertsRetired, unsound-gives, retired-gives}
+use Rattle.points.proofs.Inserting.{retired-admitted, live-admitted}
 
 -- at most a page of values is handed back
-pub few-made : (h : AdaptiveReceiverPacketWindow) (n : ℕ) (ss vs pages blocks l : List ℕ) (g k : ℕ) (r : PageReleased) (pages₁ blocks₁ l₁ : List ℕ)
-    → MakesLive h n ss vs pages blocks l g k r pages₁ blocks₁ l₁ → r .count ≤ 64
-few-made h n ss vs pages blocks l g k r pages₁ blocks₁ l₁ m =
-    elim (ℕ-discrete k 0) [ yes z ↦ m .revived z .few | no z ↦ omega (arith, ap (λ (x : PageReleased). x .count) (m .live z .0)) ]
+pub few-made : (h : AdaptiveReceiverPacketWindow) (n : ℕ) (m : Memory) (l : List ℕ) (g k : ℕ) (x : PageReleased) (m₁ : Memory) (l₁ : List ℕ)
+    → MakesLive h n m l g k x m₁ l₁ → x .count ≤ 64
+few-made h n m l g k x m₁ l₁ t =
+    elim (ℕ-discrete k 0) [ yes z ↦ t .revived z .few | no z ↦ omega (arith, ap (λ (y : PageReleased). y .count) (t .live z .0)) ]
 
--- the header and what a call answers, as a step
-abbrev pub stepOf : AdaptiveReceiverPacketWindow → Answer → ℕ → Step
-stepOf w a count = record { window = w; answer = record { answer = a; count = count } }
+-- x is what making the page live gave, pages₁, blocks₁ and l₁ the words and the return list afterwards
+module _ (h : AdaptiveReceiverPacketWindow) (m : Memory) (fit : FitsIn h m) (s p k : ℕ)
+    (e : p ≡ position (h .«window_size») s) (reach : Reachable h (m .blocks) (p / 64) k) (v : ℕ) (listed : Bool) (l : List ℕ) (long : 384 ≤ length l)
+    (x : PageReleased) (pages₁ blocks₁ l₁ : List ℕ) (t : MakesLive h (h .n) m l (p / 64) k x (memory (m .sequences) (m .values) pages₁ blocks₁) l₁)
+    (r : Step) (m′ : Memory) (i : Enters x (memory (m .sequences) (m .values) pages₁ blocks₁) (p / 64) (h .n) k s v r m′) where
+  abbrev g : ℕ
+  g = p / 64
 
-module _ (h : AdaptiveReceiverPacketWindow) (ss vs pages blocks l : List ℕ) (s v p k : ℕ)
-    (e : p ≡ position (h .«window_size») s) (reach : Reachable h blocks (p / 64) k)
-    (fit : Fits h (length ss) (length vs) (length pages) (length blocks)) (long : 384 ≤ length l)
-    (r : PageReleased) (pages₁ blocks₁ l₁ : List ℕ) (m : MakesLive h (h .n) ss vs pages blocks l (p / 64) k r pages₁ blocks₁ l₁) where
-  first : 64 * (p / 64) + 64 ≤ length ss
-  first = omega (arith, cells-in h ss vs pages blocks s p k e reach, fit .long .sequences-long)
+  abbrev m₁ : Memory
+  m₁ = memory (m .sequences) (m .values) pages₁ blocks₁
 
-  second : 64 * (p / 64) + 64 ≤ length vs
-  second = omega (arith, cells-in h ss vs pages blocks s p k e reach, fit .long .values-long)
+  -- the page was retired
+  revives : k ≡ 0 → InsertsRetired h m (p / 64) (h .n) s v l r m′ l₁
+  revives z =
+      let at = inside h m fit s p k e reach in
+      bool (x .sound)
+      (λ ok. let u = i .sound ok in
+      retired-gives h m g (h .n) s v l x pages₁ blocks₁ l₁ (t .revived z) (at .in-sequences) (at .in-values) r m′ (i .count) (u .given) (u .inserts) (u .answers .revived z) (at .cells .1))
+      (λ no. let u = i .unsound no in
+      unsound-gives h m g (h .n) s v l x pages₁ blocks₁ l₁ (t .revived z) (at .in-sequences) (at .in-values) no r m′ (i .count) (u .0) (u .1))
 
-  -- the words of the page that was revived do not fit each other
-  pub unsound-writes : r .sound ≡ false
-      → Writes (insert s v (leb 384 (length l))) (stateOf h (memory ss vs pages blocks)) l (leftOf (stepOf (r .window) (Refused Unsound) (r .count)) (memory ss vs pages₁ blocks₁) l₁)
-  unsound-writes q =
+  -- the page was live: nothing was done before the insert
+  enters-live : (k ≡ 0 → ⊥) → Admitted (insert s v listed) (stateOf h m) l (leftOf r m′ l₁)
+  enters-live n =
+      let u = t .live n in
+      let a = i .sound (ap (λ (y : PageReleased). y .sound) (u .0)) in
+      let at : InsertsLive h m g (h .n) s v (record { window = r .window; answer = a .given }) m′ =
+      subst (λ (y : Memory). InsertsLive h y g (h .n) s v (record { window = r .window; answer = a .given }) m′) (u .1)
+      (subst (λ (y : PageReleased). InsertsLive (y .window) m₁ g (h .n) s v (record { window = r .window; answer = a .given }) m′) (u .0) (a .inserts)) in
+      let count : r .answer .count ≡ 0 = i .count ∙ ap (λ (y : PageReleased). y .count) (u .0) in
+      subst (λ (y : List ℕ). Admitted (insert s v listed) (stateOf h m) l (leftOf r m′ y)) (sym (u .2))
+      (subst (λ (y : Step). Admitted (insert s v listed) (stateOf h m) l (leftOf y m′ l))
+      (λ j. record { window = r .window; answer = record { answer = sym (a .answers .live n) j; count = sym count j } })
+      (live-admitted h m fit s p k e reach v listed l long (record { window = r .window; answer = a .given }) m′ n at))
+
+  pub entered-admitted : Admitted (insert s v listed) (stateOf h m) l (leftOf r m′ l₁)
+  entered-admitted =
       elim (ℕ-discrete k 0) [
-        | yes z ↦
-            let t = unsound-gives h ss vs pages blocks (p / 64) (h .n) s v l r pages₁ blocks₁ l₁ (m .revived z) first second q in
-            retired-writes h ss vs pages blocks l s v p k e reach fit long ss vs pages₁ blocks₁ (t .within) (t .sequences) (t .values) _ l₁ z t
-        | no z ↦ absurd (true≢false (sym (ap (λ (x : PageReleased). x .sound) (m .live z .0)) ∙ q))
+        | yes z ↦ retired-admitted h m fit s p k e reach v listed l long r m′ l₁ z (revives z)
+        | no z ↦ enters-live z
       ]
-
-  module _ (q : Put) (a : Answer) (ss′ vs′ pages′ blocks′ : List ℕ) (i : InsertsLive (r .window) ss vs pages₁ blocks₁ (p / 64) (h .n) s v q ss′ vs′ pages′ blocks′)
-      (b : LiveAnswer k (q .answer) a) where
-    -- the page was live: nothing was done before the insert
-    was-live : (k ≡ 0 → ⊥) → InsertsLive h ss vs pages blocks (p / 64) (h .n) s v q ss′ vs′ pages′ blocks′
-    was-live n =
-        let u = m .live n in
-        subst (λ (x : List ℕ). InsertsLive h ss vs pages x (p / 64) (h .n) s v q ss′ vs′ pages′ blocks′) (u .2)
-        (subst (λ (x : List ℕ). InsertsLive h ss vs x blocks₁ (p / 64) (h .n) s v q ss′ vs′ pages′ blocks′) (u .1)
-        (subst (λ (x : PageReleased). InsertsLive (x .window) ss vs pages₁ blocks₁ (p / 64) (h .n) s v q ss′ vs′ pages′ blocks′) (u .0) i))
-
-    in-live : (k ≡ 0 → ⊥)
-        → Writes (insert s v (leb 384 (length l))) (stateOf h (memory ss vs pages blocks)) l (leftOf (stepOf (q .window) a (r .count)) (memory ss′ vs′ pages′ blocks′) l₁)
-    in-live n =
-        let u = m .live n in
-        let t = was-live n in
-        subst (λ (x : List ℕ). Writes (insert s v (leb 384 (length l))) (stateOf h (memory ss vs pages blocks)) l (leftOf (stepOf (q .window) a (r .count)) (memory ss′ vs′ pages′ blocks′) x)) (sym (u .3))
-        (subst (λ (x : ℕ). Writes (insert s v (leb 384 (length l))) (stateOf h (memory ss vs pages blocks)) l (leftOf (stepOf (q .window) a x) (memory ss′ vs′ pages′ blocks′) l)) (sym (ap (λ (x : PageReleased). x .count) (u .0)))
-        (subst (λ (x : Answer). Writes (insert s v (leb 384 (length l))) (stateOf h (memory ss vs pages blocks)) l (leftOf (stepOf (q .window) x 0) (memory ss′ vs′ pages′ blocks′) l)) (sym (b .live n))
-        (live-writes h ss vs pages blocks l s v p k e reach fit long ss′ vs′ pages′ blocks′ (t .within) (t .sequences) (t .values) q n t)))
-
-    pub entered-writes : Writes (insert s v (leb 384 (length l))) (stateOf h (memory ss vs pages blocks)) l (leftOf (stepOf (q .window) a (r .count)) (memory ss′ vs′ pages′ blocks′) l₁)
-    entered-writes =
-        elim (ℕ-discrete k 0) [
-          | yes z ↦
-              let t = retired-gives h ss vs pages blocks (p / 64) (h .n) s v l r pages₁ blocks₁ l₁ (m .revived z) first second q a ss′ vs′ pages′ blocks′ i (b .revived z) (omega (arith, fit .within .n-high)) in
-              retired-writes h ss vs pages blocks l s v p k e reach fit long ss′ vs′ pages′ blocks′ (t .within) (t .sequences) (t .values) _ l₁ z t
-          | no z ↦ in-live z
-        ]

@@ -1,8 +1,9 @@
 -- Laws over plain variables that the proofs cite.
 pub mod Placing
+pub mod Reaching
 pub mod Exchanging
-pub mod Removing
 pub mod Keeping
+pub mod Removing
 pub mod Putting
 pub mod Reviving
 pub mod Inserting

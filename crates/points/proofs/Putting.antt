@@ -2,17 +2,18 @@
 use mathlib.Core.Path.{_≡_, refl, sym, ap, _∙_, subst}
 use mathlib.Core.Bool.{true, false, true≢false}
 use mathlib.Core.List.{List}
-use Prim.Native.Nat.{ℕ, _+_, _*_, _/_, _%_, _^_, _≤_, _<_}
+use Prim.Native.Nat.{ℕ, _+_, _*_, _-_, _/_, _%_, _^_, _≤_, _<_}
 use native.Mathlib.Omega.{arith}
 use lib.Dec.{eqb, ltb}
-use lib.ListN.{length}
+use lib.ListN.{length, take, drop}
 use lib.Seq.{ext-getD}
 use borrow.Author.Tests.{ne-eqb}
+use borrow.Rule.Slice.PartMut.{putMid}
 use Rattle.words.specs.Cases.{bool}
 use Rattle.words.specs.Word.{bitAt, count}
 use Rattle.words.specs.BitLaws.{bit-none}
 use Rattle.window.specs.declared.AdaptiveReceiverPacketWindow.{AdaptiveReceiverPacketWindow}
-use Rattle.window.specs.Memory.{memory, blockCount}
+use Rattle.window.specs.Memory.{Memory, memory, blockCount}
 use Rattle.window.specs.MemoryLaws.{capacity-le}
 use Rattle.model.specs.Calls.{new, refused}
 use Rattle.model.specs.Window.{Page, Block, Window, decode, cellOf}
@@ -24,6 +25,7 @@ use Rattle.pages.specs.Page.{wordsAt, partOf, withPart, cells, page, Placed}
 use Rattle.pages.specs.PartLaws.{cell-in, part-length, part-own}
 use Rattle.pages.specs.DecodeLaws.{page-at}
 use Rattle.pages.specs.LiveLaws.{page-placed}
+use Rattle.pages.proofs.Parts.{lent-both}
 use Rattle.page_insert.specs.declared.Inserted.{Inserted}
 use Rattle.page_insert.specs.Insert as insert
 use Rattle.page_insert.specs.Insert.{insertedOf}
@@ -32,15 +34,26 @@ use Rattle.page_insert.specs.InsertLaws.{insert-leaves}
 use Rattle.masks.specs.Blocks.{blockWordsAt, changed}
 use Rattle.masks.specs.BlockLaws.{block-at}
 use Rattle.updates.specs.Contracts.{afterInsert}
-use Rattle.updates.specs.StoreLaws.{change, decode-stored}
+use Rattle.updates.specs.StoreLaws.{change}
 use Rattle.soundness.specs.BoundLaws.{len-le, live-le}
-use Rattle.calls.specs.Answers.{answerOf}
+use Rattle.calls.specs.Answers.{answerOf, stateOf}
 use Rattle.calls.specs.FitLaws.{page-bounds}
 use Rattle.points.specs.declared.insert.Put.{Put}
-use Rattle.points.specs.Contracts.{afterPut, Keeps, Placing, InsertsLive}
-use Rattle.points.proofs.Placing.{decode-cells}
-use Rattle.points.proofs.Exchanging.{isRefusal}
-use Rattle.points.proofs.Removing.{put-there}
+use Rattle.points.specs.Contracts.{Cells, InsertsIn, Keeps, afterPut, Placing, InsertsLive}
+use Rattle.points.proofs.Placing.{put-there, lent-cells, decode-cells, decode-kept}
+use Rattle.points.proofs.Reaching.{isRefusal}
+
+-- ---- the parts of page g lent
+
+pub insert-lent : (g n : ℕ) (w : PageWords) (ss vs : List ℕ) (s v : ℕ) (x : Inserted) (xs ys : List ℕ) → 64 * g + 64 ≤ length ss → 64 * g + 64 ≤ length vs
+    → length xs ≡ length (take ((64 * g + 64) - 64 * g) (drop (64 * g) ss)) → length ys ≡ length (take ((64 * g + 64) - 64 * g) (drop (64 * g) vs))
+    → Inserts n w (take ((64 * g + 64) - 64 * g) (drop (64 * g) ss)) (take ((64 * g + 64) - 64 * g) (drop (64 * g) vs)) s v x xs ys
+    → InsertsIn g n w ss vs s v x (putMid (64 * g) ((64 * g + 64) - 64 * g) ss xs) (putMid (64 * g) ((64 * g + 64) - 64 * g) vs ys)
+insert-lent g n w ss vs s v x xs ys first second kept held t = record {
+  sequences = lent-cells g ss xs first kept;
+  values = lent-cells g vs ys second held;
+  does = lent-both g ss vs (λ (k l : List ℕ). Inserts n w k l s v x xs ys) t;
+}
 
 -- ---- a page that got no new value: its words stay, and a refusal leaves its cells too
 
@@ -86,6 +99,9 @@ same-part : (xs ys : List ℕ) → length xs ≡ 64 → length ys ≡ 64 → cel
 same-part xs ys full filled e =
     ext-getD 0 xs ys (full ∙ sym filled) (λ c l. sym (cell-in xs c (omega arith)) ∙ (λ i. e i c) ∙ cell-in ys c (omega arith))
 
+cells-as-they-were : (g : ℕ) (list list′ : List ℕ) (a : Cells g list list′) → 64 * g + 64 ≤ length list → cells (a .part) ≡ cells (partOf g list) → list′ ≡ list
+cells-as-they-were g list list′ a l e = a .are ∙ ap (withPart g list) (same-part (a .part) (partOf g list) (a .full) (part-length g list l) e) ∙ part-own g list
+
 -- ---- the window after it, by the answer
 
 module _ (w : Window) (g : ℕ) (i : one.Inserted) where
@@ -95,121 +111,113 @@ module _ (w : Window) (g : ℕ) (i : one.Inserted) where
   after-old : isNew (i .answer) ≡ false → afterPut w g i ≡ withPage w g (i .page)
   after-old e = rw e
 
--- x is what the page's insert gave, xs and ys its cells afterwards; p, pages′ and blocks′ are what was kept of it
-module _ (h : AdaptiveReceiverPacketWindow) (ss vs pages blocks : List ℕ) (g n s v : ℕ) (w : PageWords) (xs ys : List ℕ) (x : Inserted)
-    (ew : w ≡ wordsAt pages g) (t : Inserts n w (partOf g ss) (partOf g vs) s v x xs ys) (full : length xs ≡ 64) (filled : length ys ≡ 64)
-    (first : 64 * g + 64 ≤ length ss) (second : 64 * g + 64 ≤ length vs) (few : n < 64)
-    (p : Put) (pages′ blocks′ : List ℕ) (kept : Keeps h pages blocks g x p pages′ blocks′) where
-  abbrev before : Window
-  before = decode h (memory ss vs pages blocks)
-
+-- x is what the page's insert gave, ss and vs the cells afterwards; p, pages and blocks are what was kept of it
+module _ (h : AdaptiveReceiverPacketWindow) (m : Memory) (g n s v : ℕ) (first : 64 * g + 64 ≤ length (m .sequences)) (second : 64 * g + 64 ≤ length (m .values)) (few : n < 64) where
   abbrev here : Page
-  here = page (wordsAt pages g) (partOf g ss) (partOf g vs)
+  here = page (wordsAt (m .pages) g) (partOf g (m .sequences)) (partOf g (m .values))
 
   abbrev gave : one.Inserted
   gave = insertPage n here s v
 
-  module _ (ok : Placing h ss vs pages blocks g n s v) where
-    placed : Placed n (page (wordsAt pages g) (partOf g ss) (partOf g vs))
-    placed = subst (λ (k : ℕ). Placed k here) (ok .cells) (page-placed h (memory ss vs pages blocks) (ok .sound) g (ok .below))
+  module _ (x : Inserted) (ss vs : List ℕ) (t : InsertsIn g n (wordsAt (m .pages) g) (m .sequences) (m .values) s v x ss vs)
+      (p : Put) (pages blocks : List ℕ) (kept : Keeps h (m .pages) (m .blocks) g x p pages blocks) where
+    abbrev own : Page
+    own = page (x .words) (t .sequences .part) (t .values .part)
 
-    is-page : decode h (memory ss vs pages blocks) .pages g ≡ page (wordsAt pages g) (partOf g ss) (partOf g vs)
-    is-page = page-at h (memory ss vs pages blocks) g (ok .below)
+    abbrev after : Window
+    after = withPage (decode h m) g own
 
-    is-inserted : insertedOf x xs ys ≡ insertPage n (page (wordsAt pages g) (partOf g ss) (partOf g vs)) s v
-    is-inserted =
-        t .gives (subst (Placed n) (sym (λ i. page (ew i) (partOf g ss) (partOf g vs))) placed)
-        ∙ (λ i. insertPage n (page (ew i) (partOf g ss) (partOf g vs)) s v)
+    module _ (ok : Placing h m g n) where
+      placed : Placed n here
+      placed = subst (λ (k : ℕ). Placed k here) (ok .cells) (page-placed h m (ok .sound) g (ok .below))
 
-    answers : answerOf (p .answer) ≡ insertPage n (page (wordsAt pages g) (partOf g ss) (partOf g vs)) s v .answer
-    answers = kept .answer ∙ ap (λ (i : one.Inserted). i .answer) is-inserted
+      is-inserted : insertedOf x (t .sequences .part) (t .values .part) ≡ gave
+      is-inserted = t .does .gives placed
 
-    -- ---- a new value: the words of the page and of its block were written
-    module _ (e : isNew (answerOf (p .answer)) ≡ true) where
-      abbrev after : Window
-      after = withPage before g (page (x .words) xs ys)
+      answers : answerOf (p .answer) ≡ gave .answer
+      answers = kept .answer ∙ ap (λ (i : one.Inserted). i .answer) is-inserted
 
-      in-block : g / 64 < blockCount (h .«window_size»)
-      in-block = page-bounds (h .«window_size») g (ok .below) .block
+      -- ---- a new value: the words of the page and of its block were written
+      module _ (e : isNew (answerOf (p .answer)) ≡ true) where
+        in-block : g / 64 < blockCount (h .«window_size»)
+        in-block = page-bounds (h .«window_size») g (ok .below) .block
 
-      held : holdsValue (withPage (decode h (memory ss vs pages blocks)) g (page (x .words) xs ys) .pages g) ≡ true
-      held =
-          ap holdsValue (put-there before g (page (x .words) xs ys))
-          ∙ ap (λ (i : one.Inserted). holdsValue (i .page)) is-inserted
-          ∙ holds-one (gave .page) (s % 64) (insert-leaves n here s v placed few .taken)
+        held : holdsValue (after .pages g) ≡ true
+        held =
+            ap holdsValue (put-there (decode h m) g own)
+            ∙ ap (λ (i : one.Inserted). holdsValue (i .page)) is-inserted
+            ∙ holds-one (gave .page) (s % 64) (insert-leaves n here s v placed few .taken)
 
-      len-fits : h .len + 1 < 2 ^ 32
-      unfolding decode
-      len-fits = omega (arith, len-le before (ok .sound), capacity-le (h .«window_size»))
+        len-fits : h .len + 1 < 2 ^ 32
+        unfolding decode
+        len-fits = omega (arith, len-le (decode h m) (ok .sound), capacity-le (h .«window_size»))
 
-      live-most : decode h (memory ss vs pages blocks) .blocks (g / 64) .live ≤ 4096
-      unfolding decode
-      live-most = live-le before (ok .sound) (g / 64) in-block
+        live-most : decode h m .blocks (g / 64) .live ≤ 4096
+        unfolding decode
+        live-most = live-le (decode h m) (ok .sound) (g / 64) in-block
 
-      live-fits : blockWordsAt blocks (g / 64) .live + 1 < 2 ^ 64
-      live-fits = omega (arith, live-most, ap (λ (b : Block). b .live) (block-at h (memory ss vs pages blocks) (g / 64) in-block))
+        live-fits : blockWordsAt (m .blocks) (g / 64) .live + 1 < 2 ^ 64
+        live-fits = omega (arith, live-most, ap (λ (b : Block). b .live) (block-at h m (g / 64) in-block))
 
-      changes : changed (withPage (decode h (memory ss vs pages blocks)) g (page (x .words) xs ys)) (g / 64) (change _ _ _ _ _ _ _ _ (kept .new e))
-          ≡ afterInsert (withPage (decode h (memory ss vs pages blocks)) g (page (x .words) xs ys)) g (insert.promotes (x .answer))
-      unfolding decode
-      changes = kept .new e .changes .gives after refl (block-at h (memory ss vs pages blocks) (g / 64) in-block) held len-fits live-fits
+        changes : changed after (g / 64) (change _ _ _ _ _ _ _ _ (kept .new e)) ≡ afterInsert after g (insert.promotes (x .answer))
+        unfolding decode
+        changes = kept .new e .changes .gives after refl (block-at h m (g / 64) in-block) held len-fits live-fits
 
-      same-size : p .window .«window_size» ≡ h .«window_size»
-      unfolding decode noteNonempty
-      same-size = ap (λ (u : Window). u .header .«window_size») changes
+        same-size : p .window .«window_size» ≡ h .«window_size»
+        unfolding decode noteNonempty
+        same-size = ap (λ (u : Window). u .header .«window_size») changes
 
-      new-gives : decode (p .window) (memory (withPart g ss xs) (withPart g vs ys) pages′ blocks′)
-          ≡ afterPut (decode h (memory ss vs pages blocks)) g (insertPage n (page (wordsAt pages g) (partOf g ss) (partOf g vs)) s v)
-      new-gives =
-          decode-stored _ pages blocks g (x .words) (p .window) pages′ blocks′ (kept .new e) h ss vs xs ys same-size (ok .below) in-block
-          (omega (arith, ok .below, ok .pages-long)) (ok .blocks-long) first second full filled
-          ∙ changes
-          ∙ (λ i. afterInsert (withPage before g (is-inserted i .page)) g (is-inserted i .promotes))
-          ∙ sym (after-new before g gave (sym (ap isNew answers) ∙ e))
+        new-gives : decode (p .window) (memory ss vs pages blocks) ≡ afterPut (decode h m) g gave
+        new-gives =
+            decode-kept h m g (ok .below) first second ss vs (t .sequences) (t .values) _ (x .words) (p .window) pages blocks (kept .new e) same-size (ok .pages-long) (ok .blocks-long)
+            ∙ changes
+            ∙ (λ i. afterInsert (withPage (decode h m) g (is-inserted i .page)) g (is-inserted i .promotes))
+            ∙ sym (after-new (decode h m) g gave (sym (ap isNew answers) ∙ e))
 
-    -- ---- any other answer: the cells alone were written
-    module _ (e : isNew (answerOf (p .answer)) ≡ false) where
-      not-new : isNew (insertPage n (page (wordsAt pages g) (partOf g ss) (partOf g vs)) s v .answer) ≡ false
-      not-new = sym (ap isNew answers) ∙ e
+      -- ---- any other answer: the cells alone were written
+      module _ (e : isNew (answerOf (p .answer)) ≡ false) where
+        not-new : isNew (gave .answer) ≡ false
+        not-new = sym (ap isNew answers) ∙ e
 
-      same-words : page (wordsAt pages g) xs ys ≡ insertPage n (page (wordsAt pages g) (partOf g ss) (partOf g vs)) s v .page
-      same-words = λ i. record {
-        kind = sym (old-page n here s v .kind not-new) i;
-        occupied = sym (old-page n here s v .occupied not-new) i;
-        filled = sym (old-page n here s v .filled not-new) i;
-        sequences = is-inserted i .page .sequences;
-        values = is-inserted i .page .values;
-      }
+        same-words : page (wordsAt (m .pages) g) (t .sequences .part) (t .values .part) ≡ gave .page
+        same-words = λ i. record {
+          kind = sym (old-page n here s v .kind not-new) i;
+          occupied = sym (old-page n here s v .occupied not-new) i;
+          filled = sym (old-page n here s v .filled not-new) i;
+          sequences = is-inserted i .page .sequences;
+          values = is-inserted i .page .values;
+        }
 
-      old-gives : decode (p .window) (memory (withPart g ss xs) (withPart g vs ys) pages′ blocks′)
-          ≡ afterPut (decode h (memory ss vs pages blocks)) g (insertPage n (page (wordsAt pages g) (partOf g ss) (partOf g vs)) s v)
-      old-gives =
-          let u = kept .old e in
-          (λ i. decode (u .header i) (memory (withPart g ss xs) (withPart g vs ys) (u .pages-are i) (u .blocks-are i)))
-          ∙ decode-cells ss vs pages blocks g xs ys first second full filled h (ok .below)
-          ∙ ap (withPage before g) same-words ∙ sym (after-old before g gave not-new)
+        old-gives : decode (p .window) (memory ss vs pages blocks) ≡ afterPut (decode h m) g gave
+        old-gives =
+            let u = kept .old e in
+            (λ i. decode (u .header i) (memory ss vs (u .pages-are i) (u .blocks-are i)))
+            ∙ decode-cells h m g (ok .below) first second ss vs (t .sequences) (t .values)
+            ∙ ap (withPage (decode h m) g) same-words ∙ sym (after-old (decode h m) g gave not-new)
 
-    -- ---- a refusal
-    module _ (e : answerOf (p .answer) ≡ refused 4) where
-      same-page : page (x .words) xs ys ≡ page (wordsAt pages g) (partOf g ss) (partOf g vs)
-      same-page = ap (λ (i : one.Inserted). i .page) is-inserted ∙ old-page n here s v .whole (ap isRefusal (sym answers ∙ e))
+      -- ---- a refusal
+      as-it-was : answerOf (p .answer) ≡ refused 4 → stateOf (p .window) (memory ss vs pages blocks) ≡ stateOf h m
+      as-it-was e =
+          let u = kept .old (ap isNew e) in
+          let same : own ≡ here = ap (λ (i : one.Inserted). i .page) is-inserted ∙ old-page n here s v .whole (ap isRefusal (sym answers ∙ e)) in
+          let k = cells-as-they-were g (m .sequences) ss (t .sequences) first (ap (λ (q : Page). q .sequences) same) in
+          let l = cells-as-they-were g (m .values) vs (t .values) second (ap (λ (q : Page). q .values) same) in
+          λ i. stateOf (u .header i) (memory (k i) (l i) (u .pages-are i) (u .blocks-are i))
 
-      same-sequences : withPart g ss xs ≡ ss
-      same-sequences =
-          ap (withPart g ss) (same-part xs (partOf g ss) full (part-length g ss first) (ap (λ (q : Page). q .sequences) same-page)) ∙ part-own g ss
+      is-page : decode h m .pages g ≡ here
+      is-page = page-at h m g (ok .below)
 
-      same-values : withPart g vs ys ≡ vs
-      same-values =
-          ap (withPart g vs) (same-part ys (partOf g vs) filled (part-length g vs second) (ap (λ (q : Page). q .values) same-page)) ∙ part-own g vs
+    puts : InsertsLive h m g n s v p (memory ss vs pages blocks)
+    puts = record {
+      only = record { sequences = t .sequences; values = t .values; words = kept .within };
+      answer = λ ok. answers ok ∙ ap (λ (q : Page). insertPage n q s v .answer) (sym (is-page ok));
+      gives = λ ok.
+          bool (isNew (answerOf (p .answer))) (new-gives ok) (old-gives ok)
+          ∙ ap (λ (q : Page). afterPut (decode h m) g (insertPage n q s v)) (sym (is-page ok));
+      refused = as-it-was;
+    }
 
-  pub inserts-live : InsertsLive h ss vs pages blocks g n s v p (withPart g ss xs) (withPart g vs ys) pages′ blocks′
-  inserts-live = record {
-    within = kept .within;
-    sequences = record { part = xs; full = full; are = refl };
-    values = record { part = ys; full = filled; are = refl };
-    answer = λ ok. answers ok ∙ ap (λ (q : Page). insertPage n q s v .answer) (sym (is-page ok));
-    gives = λ ok.
-        bool (isNew (answerOf (p .answer))) (new-gives ok) (old-gives ok)
-        ∙ ap (λ (q : Page). afterPut before g (insertPage n q s v)) (sym (is-page ok));
-    refused = λ ok e. (kept .old (ap isNew e), same-sequences ok e, same-values ok e);
-  }
+  pub inserts-live : (w : PageWords) → w ≡ wordsAt (m .pages) g → (x : Inserted) (ss vs : List ℕ) → InsertsIn g n w (m .sequences) (m .values) s v x ss vs
+      → (p : Put) (pages blocks : List ℕ) → Keeps h (m .pages) (m .blocks) g x p pages blocks → InsertsLive h m g n s v p (memory ss vs pages blocks)
+  inserts-live w ew x ss vs t p pages blocks kept =
+      puts x ss vs (subst (λ (u : PageWords). InsertsIn g n u (m .sequences) (m .values) s v x ss vs) ew t) p pages blocks kept

@@ -16,16 +16,15 @@ use Rattle.window.specs.declared.answers.Answer.the-variants.{Done, New, Replac
 use Rattle.window.specs.declared.answers.Step.{Step}
 use Rattle.window.specs.declared.refusals.Refusal.{Refusal}
 use Rattle.window.specs.declared.refusals.Refusal.the-variants.{Unsound}
-use Rattle.window.specs.Memory.{memory, pageCount, blockCount}
-use Rattle.window.specs.RefusalLaws as limits
+use Rattle.window.specs.Memory.{Memory, memory, pageCount, blockCount}
 use Rattle.model.specs.Calls as model
 use Rattle.model.specs.Table.{putAnswer}
 use Rattle.model.specs.Window.{Page, Window, decode, isRetired, pagesOf}
 use Rattle.model.specs.Pages.{insertPage}
 use Rattle.model.specs.Steps.{isNew, revive}
 use Rattle.model.specs.Sound.{Sound}
+use Rattle.model.specs.Contract.{State}
 use Rattle.pages.specs.Page.{wordsAt, partOf, page, Placed}
-use Rattle.pages.specs.PartLaws.{part-length, part-own}
 use Rattle.pages.specs.PlaceLaws.{placed}
 use Rattle.pages.specs.StandLaws.{stands-none}
 use Rattle.pages.specs.LiveLaws.{page-placed}
@@ -36,14 +35,14 @@ use Rattle.releases.specs.declared.PageReleased.{PageReleased}
 use Rattle.releases.specs.Contracts.{Within, Inside, Revives}
 use Rattle.soundness.specs.ProperLaws.{proper-decode}
 use Rattle.soundness.specs.ReviveLaws.{Revived, revive-revives}
-use Rattle.calls.specs.Answers.{answerOf, numberOf}
-use Rattle.points.proofs.Exchanging.{isRefusal}
-use Rattle.points.specs.declared.insert.Put.{Put}
-use Rattle.points.specs.Contracts.{afterPut, Cells, Placing, InsertsLive, RevivedAnswer}
+use Rattle.calls.specs.Answers.{answerOf, numberOf, stateOf}
+use Rattle.points.specs.Contracts.{PageOnly, afterPut, Placing, InsertsLive, RevivedAnswer}
+use Rattle.points.proofs.Placing.{same-only}
+use Rattle.points.proofs.Reaching.{isRefusal}
 
 -- ---- words written twice
 
-pub within-twice : (pages blocks pages₁ blocks₁ pages₂ blocks₂ : List ℕ) (g : ℕ) → Within pages blocks g pages₁ blocks₁ → Within pages₁ blocks₁ g pages₂ blocks₂
+within-twice : (pages blocks pages₁ blocks₁ pages₂ blocks₂ : List ℕ) (g : ℕ) → Within pages blocks g pages₁ blocks₁ → Within pages₁ blocks₁ g pages₂ blocks₂
     → Within pages blocks g pages₂ blocks₂
 within-twice pages blocks pages₁ blocks₁ pages₂ blocks₂ g a b = record {
   pages-long = b .pages-long ∙ a .pages-long;
@@ -51,10 +50,6 @@ within-twice pages blocks pages₁ blocks₁ pages₂ blocks₂ g a b = record {
   pages-past = λ n l. b .pages-past n l ∙ a .pages-past n l;
   blocks-past = λ n l. b .blocks-past n l ∙ a .blocks-past n l;
 }
-
--- cells as they were
-same-cells : (g : ℕ) (list : List ℕ) → 64 * g + 64 ≤ length list → Cells g list list
-same-cells g list l = record { part = partOf g list; full = part-length g list l; are = sym (part-own g list) }
 
 -- ---- an insert into an empty page is new
 
@@ -64,7 +59,7 @@ empty-new n s v p ok l e =
     ∙ ap (putAnswer s) (stands-none n p ok (s % 64) (ap (λ (w : ℕ). bitAt w (s % 64)) e ∙ bit-none (s % 64)))
 
 -- whether an answer is a refusal
-abbrev pub isRefused : Answer → Bool
+abbrev isRefused : Answer → Bool
 isRefused Done = false
 isRefused New = false
 isRefused (Replaced v) = false
@@ -86,111 +81,109 @@ refuses (Refused why) k e = refl
 
 -- ---- what an insert into a retired page comes to
 
-module _ (h : AdaptiveReceiverPacketWindow) (ss vs pages blocks : List ℕ) (g n s v : ℕ) where
-  pub record InsertsRetired (l : List ℕ) (r : Step) (ss′ vs′ pages′ blocks′ l′ : List ℕ) : Type 0 where
-    pub within : Within pages blocks g pages′ blocks′
-    pub sequences : Cells g ss ss′
-    pub values : Cells g vs vs′
+module _ (h : AdaptiveReceiverPacketWindow) (m : Memory) (g n s v : ℕ) where
+  pub record InsertsRetired (l : List ℕ) (r : Step) (m′ : Memory) (l′ : List ℕ) : Type 0 where
+    pub only : PageOnly g m m′
     pub wrote : Wrote 0 (r .answer .count) l l′
     pub few : r .answer .count ≤ 64
     -- a revived page holds nothing: nothing is refused 4
     pub taken : answerOf (r .answer .answer) ≡ model.refused 4 → ⊥
-    pub answer : Placing h ss vs pages blocks g n s v → isRetired (decode h (memory ss vs pages blocks)) g ≡ true
-        → answerOf (r .answer .answer) ≡ insertPage n (revive (decode h (memory ss vs pages blocks)) g .after .pages g) s v .answer
-    pub gives : Placing h ss vs pages blocks g n s v → isRetired (decode h (memory ss vs pages blocks)) g ≡ true
-        → decode (r .window) (memory ss′ vs′ pages′ blocks′)
-        ≡ afterPut (revive (decode h (memory ss vs pages blocks)) g .after) g (insertPage n (revive (decode h (memory ss vs pages blocks)) g .after .pages g) s v)
-    pub out : Placing h ss vs pages blocks g n s v → isRetired (decode h (memory ss vs pages blocks)) g ≡ true → stretch 0 (r .answer .count) l′ ≡ revive (decode h (memory ss vs pages blocks)) g .out
+    pub answer : Placing h m g n → isRetired (decode h m) g ≡ true → answerOf (r .answer .answer) ≡ insertPage n (revive (decode h m) g .after .pages g) s v .answer
+    pub gives : Placing h m g n → isRetired (decode h m) g ≡ true
+        → decode (r .window) m′ ≡ afterPut (revive (decode h m) g .after) g (insertPage n (revive (decode h m) g .after .pages g) s v)
+    pub out : Placing h m g n → isRetired (decode h m) g ≡ true → stretch 0 (r .answer .count) l′ ≡ revive (decode h m) g .out
 
-module _ (h : AdaptiveReceiverPacketWindow) (ss vs pages blocks : List ℕ) (g n s v : ℕ) (l : List ℕ) where
-  abbrev before : Window
-  before = decode h (memory ss vs pages blocks)
+-- x is what the revival gave, pages₁, blocks₁ and l₁ the words and the return list afterwards
+module _ (h : AdaptiveReceiverPacketWindow) (m : Memory) (g n s v : ℕ) (l : List ℕ) (x : PageReleased) (pages₁ blocks₁ l₁ : List ℕ)
+    (t : Revives h n (m .sequences) (m .values) (m .pages) (m .blocks) l g x pages₁ blocks₁ l₁)
+    (first : 64 * g + 64 ≤ length (m .sequences)) (second : 64 * g + 64 ≤ length (m .values)) where
+  abbrev m₁ : Memory
+  m₁ = memory (m .sequences) (m .values) pages₁ blocks₁
 
-  pub inside : Placing h ss vs pages blocks g n s v → Inside h n ss vs pages blocks l g
+  abbrev revived : Window
+  revived = revive (decode h m) g .after
+
+  inside : Placing h m g n → Inside h n (m .sequences) (m .values) (m .pages) (m .blocks) l g
   inside q = record {
     below = q .below;
     blocks-long = q .blocks-long;
-    placed = subst (λ (k : ℕ). Placed k (page (wordsAt pages g) (partOf g ss) (partOf g vs))) (q .cells) (page-placed h (memory ss vs pages blocks) (q .sound) g (q .below));
+    placed = subst (λ (k : ℕ). Placed k (page (wordsAt (m .pages) g) (partOf g (m .sequences)) (partOf g (m .values)))) (q .cells) (page-placed h m (q .sound) g (q .below));
   }
 
-  module _ (r : PageReleased) (pages₁ blocks₁ l₁ : List ℕ) (t : Revives h n ss vs pages blocks l g r pages₁ blocks₁ l₁)
-      (first : 64 * g + 64 ≤ length ss) (second : 64 * g + 64 ≤ length vs) where
-    -- the page's words do not fit each other: 7, with what was handed back
-    pub unsound-gives : r .sound ≡ false
-        → InsertsRetired h ss vs pages blocks g n s v l (record { window = r .window; answer = record { answer = Refused Unsound; count = r .count } }) ss vs pages₁ blocks₁ l₁
-    unsound-gives e =
-        let never : Placing h ss vs pages blocks g n s v → ⊥ = λ q. true≢false (sym (t .sound (inside q)) ∙ e) in
-        record {
-          within = t .within;
-          sequences = same-cells g ss first;
-          values = same-cells g vs second;
-          wrote = t .wrote;
-          few = t .few;
-          taken = λ q. omega (arith, ap numberOf q);
-          answer = λ q. absurd (never q);
-          gives = λ q. absurd (never q);
-          out = λ q. absurd (never q);
-        }
-
-    module _ (p : Put) (a : Answer) (ss′ vs′ pages′ blocks′ : List ℕ) (i : InsertsLive (r .window) ss vs pages₁ blocks₁ g n s v p ss′ vs′ pages′ blocks′)
-        (b : RevivedAnswer (p .answer) a) (small : n < 64) where
-      abbrev revived : Window
-      revived = revive before g .after
-
-      module _ (q : Placing h ss vs pages blocks g n s v) (retired : isRetired (decode h (memory ss vs pages blocks)) g ≡ true) where
-        there : decode (r .window) (memory ss vs pages₁ blocks₁) ≡ revive (decode h (memory ss vs pages blocks)) g .after
-        there = t .gives (inside q) retired
-
-        is : Revived (decode h (memory ss vs pages blocks)) (revive (decode h (memory ss vs pages blocks)) g .after) g
-        unfolding decode
-        is = revive-revives before g (proper-decode h (memory ss vs pages blocks) (q .sound)) (q .below)
-
-        header : r .window ≡ revive (decode h (memory ss vs pages blocks)) g .after .header
-        header = sym (header-at (r .window) (memory ss vs pages₁ blocks₁)) ∙ ap (λ (w : Window). w .header) there
-
-        size : r .window .«window_size» ≡ h .«window_size»
-        unfolding decode
-        size = ap (λ (x : AdaptiveReceiverPacketWindow). x .«window_size») header ∙ is .size
-
-        now-placing : Placing (r .window) ss vs pages₁ blocks₁ g n s v
-        unfolding decode
-        now-placing = record {
-          sound = subst Sound (sym there) (is .proper .sound);
-          cells = ap (λ (x : AdaptiveReceiverPacketWindow). x .n) header ∙ is .cells ∙ q .cells;
-          below = subst (λ (k : ℕ). g < pageCount k) (sym size) (q .below);
-          pages-long = subst (λ (k : ℕ). 3 * pageCount k ≤ length pages₁) (sym size) (omega (arith, q .pages-long, t .within .pages-long));
-          blocks-long = subst (λ (k : ℕ). 3 * blockCount k ≤ length blocks₁) (sym size) (omega (arith, q .blocks-long, t .within .blocks-long));
-        }
-
-        ok-page : Placed n (revive (decode h (memory ss vs pages blocks)) g .after .pages g)
-        ok-page =
-            let below : g < pagesOf revived = subst (λ (k : ℕ). g < pageCount k) (sym (is .size)) (q-below) in
-            subst (λ (k : ℕ). Placed k (revived .pages g)) (is .cells ∙ n-is) (placed _ _ g (revived .pages g) (is .proper .sound .page g below))
-          where
-            q-below : g < pageCount (before .header .«window_size»)
-            q-below = subst (λ (x : AdaptiveReceiverPacketWindow). g < pageCount (x .«window_size»)) (sym (header-at h (memory ss vs pages blocks))) (q .below)
-
-            n-is : before .header .n ≡ n
-            n-is = ap (λ (x : AdaptiveReceiverPacketWindow). x .n) (header-at h (memory ss vs pages blocks)) ∙ q .cells
-
-        answers-new : answerOf (p .answer) ≡ model.new
-        answers-new =
-            i .answer now-placing ∙ ap (λ (w : Window). insertPage n (w .pages g) s v .answer) there
-            ∙ empty-new n s v (revived .pages g) ok-page small (is .emptied retired)
-
-      pub retired-gives :
-          InsertsRetired h ss vs pages blocks g n s v l (record { window = p .window; answer = record { answer = a; count = r .count } }) ss′ vs′ pages′ blocks′ l₁
-      retired-gives = record {
-        within = within-twice pages blocks pages₁ blocks₁ pages′ blocks′ g (t .within) (i .within);
-        sequences = i .sequences;
-        values = i .values;
-        wrote = t .wrote;
-        few = t .few;
-        taken = b .taken;
-        answer = λ q ret. b .same (ap isNew (answers-new q ret)) ∙ i .answer (now-placing q ret) ∙ ap (λ (w : Window). insertPage n (w .pages g) s v .answer) (there q ret);
-        gives = λ q ret. i .gives (now-placing q ret) ∙ ap (λ (w : Window). afterPut w g (insertPage n (w .pages g) s v)) (there q ret);
-        out = λ q ret. t .out (inside q) ret;
+  -- the page's words do not fit each other: 7, with what was handed back
+  pub unsound-gives : x .sound ≡ false → (r : Step) (m′ : Memory) → r .answer .count ≡ x .count → r .answer .answer ≡ Refused Unsound
+      → stateOf (r .window) m′ ≡ stateOf (x .window) (memory (m .sequences) (m .values) pages₁ blocks₁) → InsertsRetired h m g n s v l r m′ l₁
+  unsound-gives e r m′ many a u =
+      let never : Placing h m g n → ⊥ = λ q. true≢false (sym (t .sound (inside q)) ∙ e) in
+      let same = same-only g m first second in
+      record {
+        only = subst (PageOnly g m) (sym (ap (λ (y : State). y .memory) u)) (record { sequences = same .sequences; values = same .values; words = t .within });
+        wrote = subst (λ (k : ℕ). Wrote 0 k l l₁) (sym many) (t .wrote);
+        few = omega (arith, many, t .few);
+        taken = λ q. omega (arith, ap numberOf (sym (ap answerOf a) ∙ q));
+        answer = λ q. absurd (never q);
+        gives = λ q. absurd (never q);
+        out = λ q. absurd (never q);
       }
+
+  module _ (r : Step) (m′ : Memory) (many : r .answer .count ≡ x .count) (given : Answer)
+      (i : InsertsLive (x .window) (memory (m .sequences) (m .values) pages₁ blocks₁) g n s v (record { window = r .window; answer = given }) m′)
+      (b : RevivedAnswer given (r .answer .answer)) (small : n < 64) where
+    module _ (q : Placing h m g n) (retired : isRetired (decode h m) g ≡ true) where
+      there : decode (x .window) m₁ ≡ revived
+      there = t .gives (inside q) retired
+
+      is : Revived (decode h m) revived g
+      unfolding decode
+      is = revive-revives (decode h m) g (proper-decode h m (q .sound)) (q .below)
+
+      header : x .window ≡ revived .header
+      header = sym (header-at (x .window) m₁) ∙ ap (λ (w : Window). w .header) there
+
+      size : x .window .«window_size» ≡ h .«window_size»
+      unfolding decode
+      size = ap (λ (y : AdaptiveReceiverPacketWindow). y .«window_size») header ∙ is .size
+
+      now-placing : Placing (x .window) m₁ g n
+      unfolding decode
+      now-placing = record {
+        sound = subst Sound (sym there) (is .proper .sound);
+        cells = ap (λ (y : AdaptiveReceiverPacketWindow). y .n) header ∙ is .cells ∙ q .cells;
+        below = subst (λ (k : ℕ). g < pageCount k) (sym size) (q .below);
+        pages-long = subst (λ (k : ℕ). 3 * pageCount k ≤ length pages₁) (sym size) (omega (arith, q .pages-long, t .within .pages-long));
+        blocks-long = subst (λ (k : ℕ). 3 * blockCount k ≤ length blocks₁) (sym size) (omega (arith, q .blocks-long, t .within .blocks-long));
+      }
+
+      ok-page : Placed n (revived .pages g)
+      ok-page =
+          let below : g < pagesOf revived = subst (λ (k : ℕ). g < pageCount k) (sym (is .size)) q-below in
+          subst (λ (k : ℕ). Placed k (revived .pages g)) (is .cells ∙ n-is) (placed _ _ g (revived .pages g) (is .proper .sound .page g below))
+        where
+          q-below : g < pageCount (decode h m .header .«window_size»)
+          q-below = subst (λ (y : AdaptiveReceiverPacketWindow). g < pageCount (y .«window_size»)) (sym (header-at h m)) (q .below)
+
+          n-is : decode h m .header .n ≡ n
+          n-is = ap (λ (y : AdaptiveReceiverPacketWindow). y .n) (header-at h m) ∙ q .cells
+
+      answers-new : answerOf given ≡ model.new
+      answers-new =
+          i .answer now-placing ∙ ap (λ (w : Window). insertPage n (w .pages g) s v .answer) there
+          ∙ empty-new n s v (revived .pages g) ok-page small (is .emptied retired)
+
+    pub retired-gives : InsertsRetired h m g n s v l r m′ l₁
+    retired-gives = record {
+      only = record {
+        sequences = i .only .sequences;
+        values = i .only .values;
+        words = within-twice (m .pages) (m .blocks) pages₁ blocks₁ (m′ .pages) (m′ .blocks) g (t .within) (i .only .words);
+      };
+      wrote = subst (λ (k : ℕ). Wrote 0 k l l₁) (sym many) (t .wrote);
+      few = omega (arith, many, t .few);
+      taken = b .taken;
+      answer = λ q ret. b .same (ap isNew (answers-new q ret)) ∙ i .answer (now-placing q ret) ∙ ap (λ (w : Window). insertPage n (w .pages g) s v .answer) (there q ret);
+      gives = λ q ret. i .gives (now-placing q ret) ∙ ap (λ (w : Window). afterPut w g (insertPage n (w .pages g) s v)) (there q ret);
+      out = λ q ret. ap (λ (k : ℕ). stretch 0 k l₁) many ∙ t .out (inside q) ret;
+    }
 
 -- ---- the answer on a revived page
 

@@ -1,21 +1,69 @@
 // exchange: the value of the sequence, and another put in its place.
+use calls::admits::Arguments;
+use calls::admits::NO_LIST;
+use calls::admits::admits;
 use calls::reachable;
 use calls::read_answer;
 use calls::refuse;
 use calls::reply;
+use pages::PageWords;
+use pages::find::Read;
 use pages::page_cells;
 use pages::page_words;
 use window::AdaptiveReceiverPacketWindow;
 use window::answers::Answer;
 use window::answers::Step;
 use window::memory::position;
-use window::refusals::Refusal;
-use window::refusals::fits;
-ghost use mathlib.Core.List.{[]};
-ghost use Rattle.window.specs.Memory.{memory};
+use window::refusals::Verdict;
+ghost use Prim.Native.Nat.{_+_, _*_, _≤_, _<_};
+ghost use lib.ListN.{length};
+ghost use Rattle.window.specs.Lent.{ListsFit};
 ghost use Rattle.model.specs.Calls.{exchange as exchangeOf};
-ghost use Rattle.model.specs.Contract.{Meets};
-ghost use Rattle.calls.specs.Answers.{stateOf, leftOf};
+ghost use Rattle.calls.specs.Answers.{MeetsBy};
+ghost use Rattle.calls.specs.Contracts.{AdmittedBy};
+ghost use Rattle.points.specs.Contracts.{ExchangesIn};
+
+// The value of the sequence in page `page`, which has these words, and another put in its place.
+fn exchange_in_page(
+    sequences: &[u32],
+    values: &mut [u32],
+    words: PageWords,
+    page: usize,
+    n: usize,
+    sequence: u32,
+    value: u32,
+) -> Read
+    requires { ⌜ (page < 1024) × (64 * page + 64 ≤ length (now sequences)) × (64 * page + 64 ≤ length (now values)) × (n < 64) ⌝ }
+    ensures { λ r. ⌜ ExchangesIn page n words (now (sequences .entry)) (now (values .entry)) sequence value r (now (values .exit)) ⌝ }
+{
+    let cells = page_cells(sequences, page);
+    let from = 64 * page;
+    let to = from + 64;
+    pages::find::exchange(cells, &mut values[from..to], words, n, sequence, value)
+}
+
+// Once no refusal applies. Values of a retired page are not found.
+fn exchange_value(
+    w: AdaptiveReceiverPacketWindow,
+    sequences: &[u32],
+    values: &mut [u32],
+    pages: &[u64],
+    blocks: &[u64],
+    sequence: u32,
+    value: u32,
+) -> Step
+    requires { ⌜ ListsFit w sequences values pages blocks ⌝ }
+    ensures { λ r. ⌜ AdmittedBy (exchangeOf sequence value) w sequences values pages blocks r ⌝ }
+{
+    let n = w.n as usize;
+    let page = position(w.window_size, sequence) / 64;
+    if reachable(w, blocks, page) == 0 {
+        return reply(w, Answer::Absent);
+    }
+    let words = page_words(pages, page);
+    let read = exchange_in_page(sequences, values, words, page, n, sequence, value);
+    reply(w, read_answer(read))
+}
 
 pub fn exchange(
     w: AdaptiveReceiverPacketWindow,
@@ -26,21 +74,19 @@ pub fn exchange(
     sequence: u32,
     value: u32,
 ) -> Step
-    ensures { λ r. ⌜ Meets (exchangeOf sequence value) (stateOf w (memory (now (sequences .entry)) (now (values .entry)) (now (pages .entry)) (now (blocks .entry)))) []
-        (leftOf r (memory (now (sequences .entry)) (now (values .exit)) (now (pages .entry)) (now (blocks .entry))) []) ⌝ }
+    ensures { λ r. ⌜ MeetsBy (exchangeOf sequence value) w sequences values pages blocks r ⌝ }
 {
-    if !fits(w, sequences.len(), values.len(), pages.len(), blocks.len()) {
-        return refuse(w, Refusal::ShortMemory);
+    let verdict = admits(
+        w,
+        sequences.len(),
+        values.len(),
+        pages.len(),
+        blocks.len(),
+        NO_LIST,
+        Arguments::Sequence(sequence),
+    );
+    if let Verdict::Refuse(why) = verdict {
+        return refuse(w, why);
     }
-    let n = w.n as usize;
-    let page = position(w.window_size, sequence) / 64;
-    if reachable(w, blocks, page) == 0 {
-        return reply(w, Answer::Absent);
-    }
-    let words = page_words(pages, page);
-    let cells = page_cells(sequences, page);
-    let from = 64 * page;
-    let to = from + 64;
-    let read = pages::find::exchange(cells, &mut values[from..to], words, n, sequence, value);
-    reply(w, read_answer(read))
+    exchange_value(w, sequences, values, pages, blocks, sequence, value)
 }

@@ -1,8 +1,11 @@
 // insert: the sequence and the value into the window. A retired page is first released whole.
+use calls::admits::Arguments;
+use calls::admits::admits;
 use calls::reachable;
 use calls::refuse;
 use page_insert::InsertAnswer;
 use page_insert::Inserted;
+use pages::PageWords;
 use pages::page_words;
 use releases::PageReleased;
 use releases::revive;
@@ -13,20 +16,44 @@ use window::answers::Outcome;
 use window::answers::Step;
 use window::memory::position;
 use window::refusals::Refusal;
-use window::refusals::fits_with_list;
+use window::refusals::Verdict;
 ghost use Prim.Native.Nat.{_+_, _*_, _/_, _≤_, _<_};
-ghost use lib.Dec.{leb};
 ghost use lib.ListN.{length};
-ghost use Rattle.window.specs.Memory.{memory};
+ghost use Rattle.window.specs.Lent.{ListsFit, foundIn, leftIn};
 ghost use Rattle.model.specs.Calls.{insert as insertOf};
-ghost use Rattle.model.specs.Contract.{Meets};
-ghost use Rattle.calls.specs.Answers.{stateOf, leftOf};
-ghost use Rattle.points.specs.Contracts.{Keeps, InsertsLive, MakesLive, LiveAnswer};
+ghost use Rattle.calls.specs.Answers.{MeetsInto};
+ghost use Rattle.calls.specs.Contracts.{AdmittedInto};
+ghost use Rattle.points.specs.Contracts.{InsertsIn, Keeps, InsertsLive, MakesLive, LiveAnswer, Enters};
 
 // The header after an insert into a page, and the answer.
 pub struct Put {
     pub window: AdaptiveReceiverPacketWindow,
     pub answer: Answer,
+}
+
+// The sequence and the value into page `page`, which has these words.
+fn insert_in_page(
+    sequences: &mut [u32],
+    values: &mut [u32],
+    words: PageWords,
+    page: usize,
+    n: usize,
+    sequence: u32,
+    value: u32,
+) -> Inserted
+    requires { ⌜ (page < 1024) × (64 * page + 64 ≤ length (now sequences)) × (64 * page + 64 ≤ length (now values)) × (0 < n) × (n < 64) ⌝ }
+    ensures { λ r. ⌜ InsertsIn page n words (now (sequences .entry)) (now (values .entry)) sequence value r (now (sequences .exit)) (now (values .exit)) ⌝ }
+{
+    let from = 64 * page;
+    let to = from + 64;
+    page_insert::insert(
+        &mut sequences[from..to],
+        &mut values[from..to],
+        words,
+        n,
+        sequence,
+        value,
+    )
 }
 
 // What an insert into page `page` left, written to the lists.
@@ -80,19 +107,10 @@ fn insert_live(
 ) -> Put
     requires { ⌜ (page < 1024) × (64 * page + 64 ≤ length (now sequences)) × (64 * page + 64 ≤ length (now values)) × (3 * page + 3 ≤ length (now pages)) ⌝ }
     requires { ⌜ (3 * (page / 64) + 3 ≤ length (now blocks)) × (0 < n) × (n < 64) ⌝ }
-    ensures { λ p. ⌜ InsertsLive w (now (sequences .entry)) (now (values .entry)) (now (pages .entry)) (now (blocks .entry)) page n sequence value p (now (sequences .exit)) (now (values .exit)) (now (pages .exit)) (now (blocks .exit)) ⌝ }
+    ensures { λ p. ⌜ InsertsLive w (foundIn sequences values pages blocks) page n sequence value p (leftIn sequences values pages blocks) ⌝ }
 {
     let words = page_words(pages, page);
-    let from = 64 * page;
-    let to = from + 64;
-    let r = page_insert::insert(
-        &mut sequences[from..to],
-        &mut values[from..to],
-        words,
-        n,
-        sequence,
-        value,
-    );
+    let r = insert_in_page(sequences, values, words, page, n, sequence, value);
     keep(w, pages, blocks, page, r)
 }
 
@@ -110,7 +128,7 @@ fn made_live(
 ) -> PageReleased
     requires { ⌜ (page < 1024) × (64 * page + 64 ≤ length (now sequences)) × (64 * page + 64 ≤ length (now values)) × (3 * page + 3 ≤ length (now pages)) ⌝ }
     requires { ⌜ (3 * (page / 64) + 3 ≤ length (now blocks)) × (n < 64) × (64 ≤ length (now returned)) ⌝ }
-    ensures { λ r. ⌜ MakesLive w n (now (sequences .entry)) (now (values .entry)) (now (pages .entry)) (now (blocks .entry)) (now (returned .entry)) page reach r (now (pages .exit)) (now (blocks .exit)) (now (returned .exit)) ⌝ }
+    ensures { λ r. ⌜ MakesLive w n (foundIn sequences values pages blocks) (now (returned .entry)) page reach r (leftIn sequences values pages blocks) (now (returned .exit)) ⌝ }
 {
     if reach == 0 {
         return revive(w, sequences, values, pages, blocks, returned, page, n);
@@ -136,43 +154,23 @@ fn live_answer(answer: Answer, reach: u64) -> Answer
     answer
 }
 
-pub fn insert(
-    w: AdaptiveReceiverPacketWindow,
+// The sequence and the value into page `page`, which was made live as `live` says.
+fn enter(
+    live: PageReleased,
     sequences: &mut [u32],
     values: &mut [u32],
     pages: &mut [u64],
     blocks: &mut [u64],
-    returned: &mut [u32],
+    page: usize,
+    n: usize,
+    reach: u64,
     sequence: u32,
     value: u32,
 ) -> Step
-    ensures { λ r. ⌜ Meets (insertOf sequence value (leb 384 (length (now (returned .entry))))) (stateOf w (memory (now (sequences .entry)) (now (values .entry)) (now (pages .entry)) (now (blocks .entry)))) (now (returned .entry))
-        (leftOf r (memory (now (sequences .exit)) (now (values .exit)) (now (pages .exit)) (now (blocks .exit))) (now (returned .exit))) ⌝ }
+    requires { ⌜ (page < 1024) × (64 * page + 64 ≤ length (now sequences)) × (64 * page + 64 ≤ length (now values)) × (3 * page + 3 ≤ length (now pages)) ⌝ }
+    requires { ⌜ (3 * (page / 64) + 3 ≤ length (now blocks)) × (0 < n) × (n < 64) × (live .count ≤ 64) ⌝ }
+    ensures { λ r. ⌜ Enters live (foundIn sequences values pages blocks) page n reach sequence value r (leftIn sequences values pages blocks) ⌝ }
 {
-    if !fits_with_list(
-        w,
-        sequences.len(),
-        values.len(),
-        pages.len(),
-        blocks.len(),
-        returned.len(),
-    ) {
-        return refuse(w, Refusal::ShortMemory);
-    }
-    let n = w.n as usize;
-    let page = position(w.window_size, sequence) / 64;
-    let reach = reachable(w, blocks, page);
-    let live = made_live(
-        w,
-        sequences,
-        values,
-        pages,
-        blocks,
-        returned,
-        page,
-        n,
-        reach,
-    );
     let window = live.window;
     let count = live.count as u32;
     if !live.sound {
@@ -202,4 +200,82 @@ pub fn insert(
         window: left,
         answer: Outcome { answer, count },
     }
+}
+
+// Once no refusal applies.
+fn insert_value(
+    w: AdaptiveReceiverPacketWindow,
+    sequences: &mut [u32],
+    values: &mut [u32],
+    pages: &mut [u64],
+    blocks: &mut [u64],
+    returned: &mut [u32],
+    sequence: u32,
+    value: u32,
+) -> Step
+    requires { ⌜ ListsFit w sequences values pages blocks × (384 ≤ length (now returned)) ⌝ }
+    ensures { λ r. ⌜ AdmittedInto (insertOf sequence value) w sequences values pages blocks returned r ⌝ }
+{
+    let n = w.n as usize;
+    let page = position(w.window_size, sequence) / 64;
+    let reach = reachable(w, blocks, page);
+    let live = made_live(
+        w,
+        sequences,
+        values,
+        pages,
+        blocks,
+        returned,
+        page,
+        n,
+        reach,
+    );
+    enter(
+        live,
+        sequences,
+        values,
+        pages,
+        blocks,
+        page,
+        n,
+        reach,
+        sequence,
+        value,
+    )
+}
+
+pub fn insert(
+    w: AdaptiveReceiverPacketWindow,
+    sequences: &mut [u32],
+    values: &mut [u32],
+    pages: &mut [u64],
+    blocks: &mut [u64],
+    returned: &mut [u32],
+    sequence: u32,
+    value: u32,
+) -> Step
+    ensures { λ r. ⌜ MeetsInto (insertOf sequence value) w sequences values pages blocks returned r ⌝ }
+{
+    let verdict = admits(
+        w,
+        sequences.len(),
+        values.len(),
+        pages.len(),
+        blocks.len(),
+        returned.len(),
+        Arguments::Sequence(sequence),
+    );
+    if let Verdict::Refuse(why) = verdict {
+        return refuse(w, why);
+    }
+    insert_value(
+        w,
+        sequences,
+        values,
+        pages,
+        blocks,
+        returned,
+        sequence,
+        value,
+    )
 }

@@ -1,7 +1,12 @@
 // remove: the value of the sequence taken out of the window.
+use calls::admits::Arguments;
+use calls::admits::NO_LIST;
+use calls::admits::admits;
 use calls::reachable;
 use calls::refuse;
 use calls::reply;
+use page_remove::Removed;
+use pages::PageWords;
 use pages::find::Read;
 use pages::page_words;
 use updates::store::store_removed;
@@ -9,13 +14,84 @@ use window::AdaptiveReceiverPacketWindow;
 use window::answers::Answer;
 use window::answers::Step;
 use window::memory::position;
-use window::refusals::Refusal;
-use window::refusals::fits;
-ghost use mathlib.Core.List.{[]};
-ghost use Rattle.window.specs.Memory.{memory};
+use window::refusals::Verdict;
+ghost use Prim.Native.Nat.{_+_, _*_, _/_, _≤_, _<_};
+ghost use lib.ListN.{length};
+ghost use Rattle.window.specs.Lent.{ListsFit};
 ghost use Rattle.model.specs.Calls.{remove as removeOf};
-ghost use Rattle.model.specs.Contract.{Meets};
-ghost use Rattle.calls.specs.Answers.{stateOf, leftOf};
+ghost use Rattle.calls.specs.Answers.{MeetsBy};
+ghost use Rattle.calls.specs.Contracts.{AdmittedBy};
+ghost use Rattle.points.specs.Contracts.{RemovesIn, KeepsRemoved};
+
+// The value of the sequence taken out of page `page`, which has these words.
+fn remove_in_page(
+    sequences: &mut [u32],
+    values: &mut [u32],
+    words: PageWords,
+    page: usize,
+    n: usize,
+    demote_at: usize,
+    sequence: u32,
+) -> Removed
+    requires { ⌜ (page < 1024) × (64 * page + 64 ≤ length (now sequences)) × (64 * page + 64 ≤ length (now values)) × (n < 64) ⌝ }
+    ensures { λ r. ⌜ RemovesIn page n words (now (sequences .entry)) (now (values .entry)) «demote_at» sequence r (now (sequences .exit)) (now (values .exit)) ⌝ }
+{
+    let from = 64 * page;
+    let to = from + 64;
+    page_remove::remove(
+        &mut sequences[from..to],
+        &mut values[from..to],
+        words,
+        n,
+        demote_at,
+        sequence,
+    )
+}
+
+// What a removal from page `page` left, written to the lists if it took a value out.
+fn keep_removed(
+    w: AdaptiveReceiverPacketWindow,
+    pages: &mut [u64],
+    blocks: &mut [u64],
+    page: usize,
+    words: PageWords,
+    demoted: bool,
+    read: Read,
+) -> Step
+    requires { ⌜ (page < 1024) × (3 * page + 3 ≤ length (now pages)) × (3 * (page / 64) + 3 ≤ length (now blocks)) ⌝ }
+    ensures { λ r. ⌜ KeepsRemoved w (now (pages .entry)) (now (blocks .entry)) page words demoted read r (now (pages .exit)) (now (blocks .exit)) ⌝ }
+{
+    if let Read::Value(value) = read {
+        let window = store_removed(w, pages, blocks, page, words, demoted, 1);
+        return reply(window, Answer::Found(value));
+    }
+    reply(w, Answer::Absent)
+}
+
+// Once no refusal applies. Values of a retired page are not found.
+fn remove_value(
+    w: AdaptiveReceiverPacketWindow,
+    sequences: &mut [u32],
+    values: &mut [u32],
+    pages: &mut [u64],
+    blocks: &mut [u64],
+    sequence: u32,
+) -> Step
+    requires { ⌜ ListsFit w sequences values pages blocks ⌝ }
+    ensures { λ r. ⌜ AdmittedBy (removeOf sequence) w sequences values pages blocks r ⌝ }
+{
+    let n = w.n as usize;
+    let demote_at = w.demote_at as usize;
+    let page = position(w.window_size, sequence) / 64;
+    if reachable(w, blocks, page) == 0 {
+        return reply(w, Answer::Absent);
+    }
+    let words = page_words(pages, page);
+    let r = remove_in_page(sequences, values, words, page, n, demote_at, sequence);
+    let left = r.words;
+    let read = r.answer;
+    keep_removed(w, pages, blocks, page, left, r.demoted, read)
+}
 
 pub fn remove(
     w: AdaptiveReceiverPacketWindow,
@@ -25,34 +101,19 @@ pub fn remove(
     blocks: &mut [u64],
     sequence: u32,
 ) -> Step
-    ensures { λ r. ⌜ Meets (removeOf sequence) (stateOf w (memory (now (sequences .entry)) (now (values .entry)) (now (pages .entry)) (now (blocks .entry)))) []
-        (leftOf r (memory (now (sequences .exit)) (now (values .exit)) (now (pages .exit)) (now (blocks .exit))) []) ⌝ }
+    ensures { λ r. ⌜ MeetsBy (removeOf sequence) w sequences values pages blocks r ⌝ }
 {
-    if !fits(w, sequences.len(), values.len(), pages.len(), blocks.len()) {
-        return refuse(w, Refusal::ShortMemory);
-    }
-    let n = w.n as usize;
-    let demote_at = w.demote_at as usize;
-    let page = position(w.window_size, sequence) / 64;
-    if reachable(w, blocks, page) == 0 {
-        return reply(w, Answer::Absent);
-    }
-    let words = page_words(pages, page);
-    let from = 64 * page;
-    let to = from + 64;
-    let r = page_remove::remove(
-        &mut sequences[from..to],
-        &mut values[from..to],
-        words,
-        n,
-        demote_at,
-        sequence,
+    let verdict = admits(
+        w,
+        sequences.len(),
+        values.len(),
+        pages.len(),
+        blocks.len(),
+        NO_LIST,
+        Arguments::Sequence(sequence),
     );
-    let read = r.answer;
-    if let Read::Value(value) = read {
-        let left = r.words;
-        let window = store_removed(w, pages, blocks, page, left, r.demoted, 1);
-        return reply(window, Answer::Found(value));
+    if let Verdict::Refuse(why) = verdict {
+        return refuse(w, why);
     }
-    reply(w, Answer::Absent)
+    remove_value(w, sequences, values, pages, blocks, sequence)
 }
