@@ -8,7 +8,7 @@ use native.Mathlib.Nat.{sub-add-cancel, mod-add-mod}
 use lib.Pow.{mod-mod-pow}
 use borrow.Author.Tests.{not-false}
 use Rattle.window.specs.declared.AdaptiveReceiverPacketWindow.{AdaptiveReceiverPacketWindow}
-use Rattle.window.specs.Memory.{capacity, pageCount, blockCount, position}
+use Rattle.window.specs.Memory.{capacity, pageCount, blockCount, pageWords, blockWords, position}
 use Rattle.window.specs.MemoryLaws.{capacity-power, capacity-pages, page-count-le, position-lt}
 use Rattle.window.specs.Refusals.{fits}
 use Rattle.window.specs.RefusalLaws.{Fits, fits-is}
@@ -36,8 +36,8 @@ pub record PageBounds (size g : ℕ) : Type 0 where
   pub page-fits : g < 1024
   pub block : g / 64 < blockCount size
   pub cells : 64 * g + 64 ≤ capacity size
-  pub words : 3 * g + 3 ≤ 3 * pageCount size
-  pub block-words : 3 * (g / 64) + 3 ≤ 3 * blockCount size
+  pub words : pageWords * g + pageWords ≤ pageWords * pageCount size
+  pub block-words : blockWords * (g / 64) + blockWords ≤ blockWords * blockCount size
 
 pub page-bounds : (size g : ℕ) → g < pageCount size → PageBounds size g
 page-bounds size g l = record {

@@ -10,7 +10,7 @@ use lib.ListN.{length}
 use borrow.Author.Tests.{eq-eqb}
 use Rattle.words.specs.Cases.{bool}
 use Rattle.window.specs.declared.AdaptiveReceiverPacketWindow.{AdaptiveReceiverPacketWindow}
-use Rattle.window.specs.Memory.{memory, position, capacity, pageCount, blockCount}
+use Rattle.window.specs.Memory.{memory, position, capacity, pageCount, blockCount, pageWords, blockWords}
 use Rattle.window.specs.declared.answers.Answer.the-variants.{Absent, Found}
 use Rattle.model.specs.Calls as model
 use Rattle.model.specs.Calls.{remove, absent, found}
@@ -166,7 +166,7 @@ module _ (h : AdaptiveReceiverPacketWindow) (ss vs pages blocks : List ℕ) (s p
     -- ---- the sequence had value v: the page's words and its block's were written
     module _ (v : ℕ) (win : AdaptiveReceiverPacketWindow) (pages′ blocks′ : List ℕ)
         (stored : Stores (updates.Removed h (blockWordsAt blocks (p / 64 / 64)) (p / 64) (holds (x .words)) (x .demoted) 1) pages blocks (p / 64) (x .words) win pages′ blocks′)
-        (third : 3 * pageCount (h .«window_size») ≤ length pages) (fourth : 3 * blockCount (h .«window_size») ≤ length blocks) where
+        (third : pageWords * pageCount (h .«window_size») ≤ length pages) (fourth : blockWords * blockCount (h .«window_size») ≤ length blocks) where
       abbrev after : Window
       after = withPage before g (page (x .words) xs ys)
 

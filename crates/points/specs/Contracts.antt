@@ -6,7 +6,7 @@ use Prim.Native.Nat.{ℕ, _*_, _/_, _≤_, _<_}
 use lib.ListN.{length}
 use Rattle.window.specs.declared.AdaptiveReceiverPacketWindow.{AdaptiveReceiverPacketWindow}
 use Rattle.window.specs.declared.answers.Answer.{Answer}
-use Rattle.window.specs.Memory.{memory, pageCount, blockCount}
+use Rattle.window.specs.Memory.{memory, pageCount, blockCount, pageWords, blockWords}
 use Rattle.model.specs.Calls as model
 use Rattle.model.specs.Window.{Window, decode}
 use Rattle.model.specs.Pages as one
@@ -54,8 +54,8 @@ module _ (h : AdaptiveReceiverPacketWindow) (ss vs pages blocks : List ℕ) (g n
     pub sound : Sound (decode h (memory ss vs pages blocks))
     pub cells : h .n ≡ n
     pub below : g < pageCount (h .«window_size»)
-    pub pages-long : 3 * pageCount (h .«window_size») ≤ length pages
-    pub blocks-long : 3 * blockCount (h .«window_size») ≤ length blocks
+    pub pages-long : pageWords * pageCount (h .«window_size») ≤ length pages
+    pub blocks-long : blockWords * blockCount (h .«window_size») ≤ length blocks
 
   pub record InsertsLive (p : Put) (ss′ vs′ pages′ blocks′ : List ℕ) : Type 0 where
     pub within : Within pages blocks g pages′ blocks′

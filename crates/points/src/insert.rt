@@ -17,6 +17,7 @@ use window::refusals::fits_with_list;
 ghost use Prim.Native.Nat.{_+_, _*_, _/_, _≤_, _<_};
 ghost use lib.Dec.{leb};
 ghost use lib.ListN.{length};
+ghost use Rattle.window.specs.Memory.{pageWords, blockWords, rowIn};
 ghost use Rattle.model.specs.Calls.{insert as insertOf};
 ghost use Rattle.model.specs.Contract.{Meets};
 ghost use Rattle.calls.specs.Answers.{stateOf, leftOf};
@@ -36,7 +37,7 @@ fn keep(
     page: usize,
     r: Inserted,
 ) -> Put
-    requires { ⌜ (page < 1024) × (3 * page + 3 ≤ length (now pages)) × (3 * (page / 64) + 3 ≤ length (now blocks)) ⌝ }
+    requires { ⌜ (page < 1024) × rowIn pageWords page (now pages) × rowIn blockWords (page / 64) (now blocks) ⌝ }
     ensures { λ p. ⌜ Keeps w (now (pages .entry)) (now (blocks .entry)) page r p (now (pages .exit)) (now (blocks .exit)) ⌝ }
 {
     let words = r.words;
@@ -77,8 +78,8 @@ fn insert_live(
     sequence: u32,
     value: u32,
 ) -> Put
-    requires { ⌜ (page < 1024) × (64 * page + 64 ≤ length (now sequences)) × (64 * page + 64 ≤ length (now values)) × (3 * page + 3 ≤ length (now pages)) ⌝ }
-    requires { ⌜ (3 * (page / 64) + 3 ≤ length (now blocks)) × (0 < n) × (n < 64) ⌝ }
+    requires { ⌜ (page < 1024) × (64 * page + 64 ≤ length (now sequences)) × (64 * page + 64 ≤ length (now values)) × rowIn pageWords page (now pages) ⌝ }
+    requires { ⌜ rowIn blockWords (page / 64) (now blocks) × (0 < n) × (n < 64) ⌝ }
     ensures { λ p. ⌜ InsertsLive w (now (sequences .entry)) (now (values .entry)) (now (pages .entry)) (now (blocks .entry)) page n sequence value p (now (sequences .exit)) (now (values .exit)) (now (pages .exit)) (now (blocks .exit)) ⌝ }
 {
     let words = page_words(pages, page);
@@ -107,8 +108,8 @@ fn made_live(
     n: usize,
     reach: u64,
 ) -> PageReleased
-    requires { ⌜ (page < 1024) × (64 * page + 64 ≤ length (now sequences)) × (64 * page + 64 ≤ length (now values)) × (3 * page + 3 ≤ length (now pages)) ⌝ }
-    requires { ⌜ (3 * (page / 64) + 3 ≤ length (now blocks)) × (n < 64) × (64 ≤ length (now returned)) ⌝ }
+    requires { ⌜ (page < 1024) × (64 * page + 64 ≤ length (now sequences)) × (64 * page + 64 ≤ length (now values)) × rowIn pageWords page (now pages) ⌝ }
+    requires { ⌜ rowIn blockWords (page / 64) (now blocks) × (n < 64) × (64 ≤ length (now returned)) ⌝ }
     ensures { λ r. ⌜ MakesLive w n (now (sequences .entry)) (now (values .entry)) (now (pages .entry)) (now (blocks .entry)) (now (returned .entry)) page reach r (now (pages .exit)) (now (blocks .exit)) (now (returned .exit)) ⌝ }
 {
     if reach == 0 {

@@ -7,7 +7,7 @@ use window::AdaptiveReceiverPacketWindow;
 ghost use mathlib.Core.Path.{_≡_};
 ghost use Prim.Native.Nat.{_*_, _<_, _≤_};
 ghost use lib.ListN.{length};
-ghost use Rattle.window.specs.Memory.{capacity, pageCount, blockCount};
+ghost use Rattle.window.specs.Memory.{capacity, pageCount, blockCount, pageWords, blockWords};
 ghost use Rattle.reads.specs.Contracts.{FindsInPage, FindsCell};
 
 // The first cell in use of page `page` from its cell `from` on, if the page is reachable; 64 if there is none.
@@ -19,7 +19,7 @@ fn cell_in_page(
     from: usize,
 ) -> usize
     requires { ⌜ (page < pageCount (w .«window_size»)) × (from < 64) ⌝ }
-    requires { ⌜ (3 * pageCount (w .«window_size») ≤ length (now pages)) × (3 * blockCount (w .«window_size») ≤ length (now blocks)) ⌝ }
+    requires { ⌜ (pageWords * pageCount (w .«window_size») ≤ length (now pages)) × (blockWords * blockCount (w .«window_size») ≤ length (now blocks)) ⌝ }
     ensures { λ r. ⌜ FindsInPage w (now (pages .entry)) (now (blocks .entry)) page from r ⌝ }
 {
     if reachable(w, blocks, page) == 0 {
@@ -38,7 +38,7 @@ fn walk_cells(
     end: usize,
 ) -> usize
     requires { ⌜ (w .«window_size» ≤ 65536) × (start < end) × (end ≤ capacity (w .«window_size»)) ⌝ }
-    requires { ⌜ (3 * pageCount (w .«window_size») ≤ length (now pages)) × (3 * blockCount (w .«window_size») ≤ length (now blocks)) ⌝ }
+    requires { ⌜ (pageWords * pageCount (w .«window_size») ≤ length (now pages)) × (blockWords * blockCount (w .«window_size») ≤ length (now blocks)) ⌝ }
     ensures { λ r. ⌜ FindsCell w (now (pages .entry)) (now (blocks .entry)) start end r ⌝ }
 {
     let nonempty_summary = w.nonempty_summary;
@@ -70,7 +70,7 @@ pub fn next_cell(
     end: usize,
 ) -> usize
     requires { ⌜ (w .«window_size» ≤ 65536) × (start < end) × (end ≡ capacity (w .«window_size»)) ⌝ }
-    requires { ⌜ (3 * pageCount (w .«window_size») ≤ length (now pages)) × (3 * blockCount (w .«window_size») ≤ length (now blocks)) ⌝ }
+    requires { ⌜ (pageWords * pageCount (w .«window_size») ≤ length (now pages)) × (blockWords * blockCount (w .«window_size») ≤ length (now blocks)) ⌝ }
     ensures { λ r. ⌜ FindsCell w (now (pages .entry)) (now (blocks .entry)) start end r ⌝ }
 {
     let page = start / 64;

@@ -7,7 +7,7 @@ use pages::page_words;
 use window::AdaptiveReceiverPacketWindow;
 ghost use Prim.Native.Nat.{_*_, _<_, _≤_};
 ghost use lib.ListN.{length};
-ghost use Rattle.window.specs.Memory.{capacity, pageCount, blockCount};
+ghost use Rattle.window.specs.Memory.{capacity, pageCount, blockCount, pageWords, blockWords};
 ghost use Rattle.searches.specs.Contracts.{FindsLive};
 
 // What the walk finds. Unsound: a page that the masks name holds no value, or a position that it names has no cell.
@@ -27,7 +27,7 @@ pub fn find_live(
     end: usize,
 ) -> Found
     requires { ⌜ (w .«window_size» ≤ 65536) × (w .n < 64) × (start < end) × (end ≤ capacity (w .«window_size»)) ⌝ }
-    requires { ⌜ (capacity (w .«window_size») ≤ length (now sequences)) × (3 * pageCount (w .«window_size») ≤ length (now pages)) × (3 * blockCount (w .«window_size») ≤ length (now blocks)) ⌝ }
+    requires { ⌜ (capacity (w .«window_size») ≤ length (now sequences)) × (pageWords * pageCount (w .«window_size») ≤ length (now pages)) × (blockWords * blockCount (w .«window_size») ≤ length (now blocks)) ⌝ }
     ensures { λ r. ⌜ FindsLive w (now (sequences .entry)) (now (pages .entry)) (now (blocks .entry)) start end r ⌝ }
 {
     let n = w.n as usize;

@@ -10,7 +10,7 @@ use Rattle.window.specs.declared.refusals.Refusal.{Refusal}
 use Rattle.window.specs.declared.refusals.Refusal.the-variants.{WindowSize, SparseCells, DemoteAt, Occupied, RangeCount, ShortMemory, Unsound, Budget}
 use Rattle.window.specs.declared.refusals.Verdict.{Verdict}
 use Rattle.window.specs.declared.refusals.Verdict.the-variants.{Refuse}
-use Rattle.window.specs.Memory.{capacity, pageCount, blockCount}
+use Rattle.window.specs.Memory.{capacity, pageCount, blockCount, pageWords, blockWords}
 use Rattle.window.specs.Refusals.{refusalNumber, verdictNumber, outside, limits, longEnough, fits, fitsWithList}
 
 -- inside the limits of refusals 1 to 3
@@ -25,8 +25,8 @@ pub record Within (size n demoteAt : ℕ) : Type 0 where
 pub record LongEnough (size sequences values pages blocks : ℕ) : Type 0 where
   pub sequences-long : capacity size ≤ sequences
   pub values-long : capacity size ≤ values
-  pub pages-long : 3 * pageCount size ≤ pages
-  pub blocks-long : 3 * blockCount size ≤ blocks
+  pub pages-long : pageWords * pageCount size ≤ pages
+  pub blocks-long : blockWords * blockCount size ≤ blocks
 
 -- what a call knows of its header and lists once refusal 6 does not apply
 pub record Fits (w : AdaptiveReceiverPacketWindow) (sequences values pages blocks : ℕ) : Type 0 where
