@@ -8,6 +8,7 @@ use pages::page_words;
 use window::AdaptiveReceiverPacketWindow;
 use window::answers::Answer;
 use window::answers::Step;
+use window::memory::PAGE_SLOTS;
 use window::memory::position;
 use window::refusals::Refusal;
 use window::refusals::fits;
@@ -32,14 +33,14 @@ pub fn exchange(
         return refuse(w, Refusal::ShortMemory);
     }
     let n = w.n as usize;
-    let page = position(w.window_size, sequence) / 64;
+    let page = position(w.window_size, sequence) / PAGE_SLOTS;
     if reachable(w, blocks, page) == 0 {
         return reply(w, Answer::Absent);
     }
     let words = page_words(pages, page);
     let cells = page_cells(sequences, page);
-    let from = 64 * page;
-    let to = from + 64;
+    let from = PAGE_SLOTS * page;
+    let to = from + PAGE_SLOTS;
     let read = pages::find::exchange(cells, &mut values[from..to], words, n, sequence, value);
     reply(w, read_answer(read))
 }

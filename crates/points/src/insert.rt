@@ -11,6 +11,7 @@ use window::AdaptiveReceiverPacketWindow;
 use window::answers::Answer;
 use window::answers::Outcome;
 use window::answers::Step;
+use window::memory::PAGE_SLOTS;
 use window::memory::position;
 use window::refusals::Refusal;
 use window::refusals::fits_with_list;
@@ -83,8 +84,8 @@ fn insert_live(
     ensures { λ p. ⌜ InsertsLive w (now (sequences .entry)) (now (values .entry)) (now (pages .entry)) (now (blocks .entry)) page n sequence value p (now (sequences .exit)) (now (values .exit)) (now (pages .exit)) (now (blocks .exit)) ⌝ }
 {
     let words = page_words(pages, page);
-    let from = 64 * page;
-    let to = from + 64;
+    let from = PAGE_SLOTS * page;
+    let to = from + PAGE_SLOTS;
     let r = page_insert::insert(
         &mut sequences[from..to],
         &mut values[from..to],
@@ -160,7 +161,7 @@ pub fn insert(
         return refuse(w, Refusal::ShortMemory);
     }
     let n = w.n as usize;
-    let page = position(w.window_size, sequence) / 64;
+    let page = position(w.window_size, sequence) / PAGE_SLOTS;
     let reach = reachable(w, blocks, page);
     let live = made_live(
         w,

@@ -8,6 +8,7 @@ use updates::store::store_removed;
 use window::AdaptiveReceiverPacketWindow;
 use window::answers::Answer;
 use window::answers::Step;
+use window::memory::PAGE_SLOTS;
 use window::memory::position;
 use window::refusals::Refusal;
 use window::refusals::fits;
@@ -32,13 +33,13 @@ pub fn remove(
     }
     let n = w.n as usize;
     let demote_at = w.demote_at as usize;
-    let page = position(w.window_size, sequence) / 64;
+    let page = position(w.window_size, sequence) / PAGE_SLOTS;
     if reachable(w, blocks, page) == 0 {
         return reply(w, Answer::Absent);
     }
     let words = page_words(pages, page);
-    let from = 64 * page;
-    let to = from + 64;
+    let from = PAGE_SLOTS * page;
+    let to = from + PAGE_SLOTS;
     let r = page_remove::remove(
         &mut sequences[from..to],
         &mut values[from..to],

@@ -10,6 +10,7 @@ use pages::page_cells;
 use pages::page_words;
 use updates::store::store_removed;
 use window::AdaptiveReceiverPacketWindow;
+use window::memory::PAGE_SLOTS;
 ghost use Prim.Native.Nat.{_+_, _*_, _≤_, _<_};
 ghost use lib.ListN.{length};
 ghost use Rattle.words.specs.Word.{isSet};
@@ -45,7 +46,7 @@ fn drain_slots(
         n,
         slots,
         at,
-        64,
+        PAGE_SLOTS,
     )
 }
 
@@ -60,8 +61,8 @@ fn settle_page(
     requires { ⌜ (page < 1024) × (64 * page + 64 ≤ length (now sequences)) × (64 * page + 64 ≤ length (now values)) ⌝ }
     ensures { λ r. ⌜ SettlesPage «demote_at» page words (now (sequences .entry)) (now (values .entry)) r (now (sequences .exit)) (now (values .exit)) ⌝ }
 {
-    let from = 64 * page;
-    let to = from + 64;
+    let from = PAGE_SLOTS * page;
+    let to = from + PAGE_SLOTS;
     settle(
         &mut sequences[from..to],
         &mut values[from..to],

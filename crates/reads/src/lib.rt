@@ -15,6 +15,7 @@ use round::find_round;
 use window::AdaptiveReceiverPacketWindow;
 use window::answers::Answer;
 use window::answers::Step;
+use window::memory::PAGE_SLOTS;
 use window::memory::capacity;
 use window::memory::position;
 use window::refusals::Refusal;
@@ -40,7 +41,7 @@ pub fn get(
         return refuse(w, Refusal::ShortMemory);
     }
     let n = w.n as usize;
-    let page = position(w.window_size, sequence) / 64;
+    let page = position(w.window_size, sequence) / PAGE_SLOTS;
     if reachable(w, blocks, page) == 0 {
         return reply(w, Answer::Absent);
     }

@@ -8,6 +8,7 @@ use pages::page_cells;
 use pages::page_words;
 use updates::store::store_released;
 use window::AdaptiveReceiverPacketWindow;
+use window::memory::PAGE_SLOTS;
 ghost use mathlib.Core.Path.{_≡_};
 ghost use Prim.Native.Nat.{_+_, _*_, _/_, _≤_, _<_};
 ghost use lib.ListN.{length};
@@ -110,6 +111,6 @@ pub fn revive(
         page,
         n,
         0,
-        64,
+        PAGE_SLOTS,
     )
 }

@@ -5,6 +5,7 @@ use pages::find::slot_at;
 use pages::page_cells;
 use pages::page_words;
 use window::AdaptiveReceiverPacketWindow;
+use window::memory::PAGE_SLOTS;
 ghost use Prim.Native.Nat.{_*_, _<_, _≤_};
 ghost use lib.ListN.{length};
 ghost use Rattle.window.specs.Memory.{capacity, pageCount, blockCount, pageWords, blockWords};
@@ -33,8 +34,8 @@ pub fn find_live(
     let n = w.n as usize;
     let nonempty_summary = w.nonempty_summary;
     let retired_blocks = w.retired_blocks;
-    let stop = (end - 1) / 64 + 1;
-    let mut from = start / 64;
+    let stop = (end - 1) / PAGE_SLOTS + 1;
+    let mut from = start / PAGE_SLOTS;
     let found = loop {
         let page = next_live_page(blocks, nonempty_summary, retired_blocks, from, stop);
         if stop <= page {
@@ -48,7 +49,7 @@ pub fn find_live(
         if occupied != 0 {
             let cells = page_cells(sequences, page);
             let c = slot_at(cells, words, n, words::lowest(occupied, 0));
-            if 64 <= c {
+            if PAGE_SLOTS <= c {
                 break Found::Unsound;
             }
             break Found::At(cells[c]);

@@ -20,11 +20,12 @@ use window::Created;
 use window::answers::Answer;
 use window::answers::Step;
 use window::memory::BLOCK_WORDS;
+use window::memory::PAGE_SLOTS;
 use window::memory::PAGE_WORDS;
 ghost use Rattle.windowlines.specs.Program.{Untaken, Creates, Answers};
 
 // The words for the 64 pages of a window of 4096, and for their one block.
-pub const PAGE_LIST: usize = 64 * PAGE_WORDS;
+pub const PAGE_LIST: usize = 4096 / PAGE_SLOTS * PAGE_WORDS;
 
 pub const BLOCK_LIST: usize = BLOCK_WORDS;
 
