@@ -160,7 +160,21 @@ def blockCount(size):
     return (pageCount(size) + 63) // 64
 
 
+pageWords = 3
+
+blockWords = 3
+
 Memory = namedtuple('Memory', 'sequences values pages blocks')
+
+
+def getD(l, k, default):
+    """lib.ListN"""
+    return l[k] if k < len(l) else default
+
+
+def wordAt(width, words, k, i):
+    """Memory.antt"""
+    return getD(words, width * k + i, 0)
 
 
 # ==== RefusalLaws.antt
@@ -296,11 +310,6 @@ def blocksOf(w):
 
 # ---- the lent lists, read as a window
 
-def getD(l, k, default):
-    """lib.ListN"""
-    return l[k] if k < len(l) else default
-
-
 def cellsAt(l, g):
     """Window.antt"""
     return funOf(lambda c: getD(l, 64 * g + c, 0), 64, 0)
@@ -311,7 +320,7 @@ noPage = Page(0, 0, 0, Fun(0), Fun(0))
 
 def pageAt(m, g):
     """Window.antt"""
-    return Page(getD(m.pages, 3 * g, 0), getD(m.pages, 3 * g + 1, 0), getD(m.pages, 3 * g + 2, 0),
+    return Page(wordAt(pageWords, m.pages, g, 0), wordAt(pageWords, m.pages, g, 1), wordAt(pageWords, m.pages, g, 2),
                 cellsAt(m.sequences, g), cellsAt(m.values, g))
 
 
@@ -320,7 +329,7 @@ noBlock = Block(0, 0, 0)
 
 def blockAt(m, b):
     """Window.antt"""
-    return Block(getD(m.blocks, 3 * b, 0), getD(m.blocks, 3 * b + 1, 0), getD(m.blocks, 3 * b + 2, 0))
+    return Block(wordAt(blockWords, m.blocks, b, 0), wordAt(blockWords, m.blocks, b, 1), wordAt(blockWords, m.blocks, b, 2))
 
 
 def decode(h, m):
@@ -657,16 +666,33 @@ def setDemotions(h, x):
     return headerWith(h, h.len, h.retired_held, h.release_cursor, h.nonempty_summary, h.retired_blocks, h.promotions, x)
 
 
+# ---- changes of a block, one word each
+
+def block(nonempty, retired, live):
+    """Steps.antt"""
+    return Block(nonempty, retired, live)
+
+
+def setNonempty(x, word):
+    """Steps.antt"""
+    return block(word, x.retired, x.live)
+
+
+def setRetired(x, word):
+    """Steps.antt"""
+    return block(x.nonempty, word, x.live)
+
+
+def setLive(x, count):
+    """Steps.antt"""
+    return block(x.nonempty, x.retired, count)
+
+
 # ---- changes of the window
 
 def withHeader(w, h):
     """Steps.antt"""
     return window(h, w.pages, w.blocks)
-
-
-def block(nonempty, retired, live):
-    """Steps.antt"""
-    return Block(nonempty, retired, live)
 
 
 def withBlock(w, b, x):
@@ -684,7 +710,7 @@ def noteNonempty(w, g):
     b = g // 64
     word = withBit(w.blocks(b).nonempty, g % 64, one(holdsValue(w.pages(g))))
     return window(setSummary(w.header, withBit(w.header.nonempty_summary, b, one(not word == 0))),
-                  w.pages, upd(w.blocks, b, block(word, w.blocks(b).retired, w.blocks(b).live)))
+                  w.pages, upd(w.blocks, b, setNonempty(w.blocks(b), word)))
 
 
 def putPage(w, g, p):
@@ -695,13 +721,13 @@ def putPage(w, g, p):
 def addLive(w, b, k):
     """Steps.antt"""
     return withBlock(withHeader(w, setLen(w.header, w.header.len + k)), b,
-                     block(w.blocks(b).nonempty, w.blocks(b).retired, w.blocks(b).live + k))
+                     setLive(w.blocks(b), w.blocks(b).live + k))
 
 
 def subLive(w, b, k):
     """Steps.antt"""
     return withBlock(withHeader(w, setLen(w.header, minus(w.header.len, k))), b,
-                     block(w.blocks(b).nonempty, w.blocks(b).retired, minus(w.blocks(b).live, k)))
+                     setLive(w.blocks(b), minus(w.blocks(b).live, k)))
 
 
 def countPromotion(w, happened):
@@ -716,7 +742,7 @@ def countDemotion(w, happened):
 
 def setMarks(w, b, word):
     """Steps.antt"""
-    return withBlock(w, b, block(w.blocks(b).nonempty, word, w.blocks(b).live))
+    return withBlock(w, b, setRetired(w.blocks(b), word))
 
 
 def dropBlockMarks(w):
@@ -897,7 +923,7 @@ def retireAll(w):
     return dropBlockMarks(window(
         setRetiredBlocks(setHeld(setLen(w.header, 0), w.header.retired_held + w.header.len), span(0, blocksOf(w))),
         w.pages,
-        Fun(noBlock, ((b, block(x.nonempty, x.retired, 0) if b < blocksOf(w) else x) for b, x in w.blocks.items()))))
+        Fun(noBlock, ((b, setLive(x, 0) if b < blocksOf(w) else x) for b, x in w.blocks.items()))))
 
 
 def releasePages(n, g, k, w):
@@ -1510,7 +1536,7 @@ def lent_junk(r, size):
     """Memory as new leaves it: words 0, and anything in the cells."""
     cap = capacity(size)
     return Memory([r.getrandbits(32) for _ in range(cap)], [r.getrandbits(32) for _ in range(cap)],
-                  [0] * (3 * pageCount(size)), [0] * (3 * blockCount(size)))
+                  [0] * (pageWords * pageCount(size)), [0] * (blockWords * blockCount(size)))
 
 
 def check_list(r, size, calls):

@@ -4,7 +4,7 @@ use Prim.Native.Nat.{ℕ, _+_, _-_, _*_, _/_, _%_, _^_, _≤_, _<_}
 use native.Mathlib.Omega.{arith}
 use native.Mathlib.Nat.{sub-add-cancel, mod-add-mod}
 use lib.Pow.{mod-mod-pow}
-use Rattle.window.specs.Memory.{capacity, pageCount, blockCount, position}
+use Rattle.window.specs.Memory.{capacity, pageCount, blockCount, position, pageWords, blockWords}
 use Rattle.window.specs.MemoryLaws.{capacity-power, capacity-pages, page-count-le, position-lt}
 
 -- ---- pages
@@ -15,8 +15,8 @@ pub record PageBounds (size g : ℕ) : Type 0 where
   pub page-fits : g < 1024
   pub block : g / 64 < blockCount size
   pub cells : 64 * g + 64 ≤ capacity size
-  pub words : 3 * g + 3 ≤ 3 * pageCount size
-  pub block-words : 3 * (g / 64) + 3 ≤ 3 * blockCount size
+  pub words : pageWords * g + pageWords ≤ pageWords * pageCount size
+  pub block-words : blockWords * (g / 64) + blockWords ≤ blockWords * blockCount size
 
 pub page-bounds : (size g : ℕ) → g < pageCount size → PageBounds size g
 page-bounds size g l = record {

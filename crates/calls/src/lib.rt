@@ -10,8 +10,8 @@ use window::answers::Outcome;
 use window::answers::Step;
 use window::refusals::Refusal;
 ghost use mathlib.Core.Path.{_≡_};
-ghost use Prim.Native.Nat.{_+_, _*_, _/_, _≤_, _<_};
-ghost use lib.ListN.{length};
+ghost use Prim.Native.Nat.{_+_, _/_, _<_};
+ghost use Rattle.window.specs.Memory.{blockWords, rowIn};
 ghost use Rattle.model.specs.Table.{rangeCount};
 ghost use Rattle.pages.specs.Contracts.{readAnswer};
 ghost use Rattle.calls.specs.Answers.{answerOf, replied, refusedBy};
@@ -46,7 +46,7 @@ pub fn read_answer(read: Read) -> Answer
 
 // Whether values of a page are reachable: 1 or 0. Always, unless some retired value is held.
 pub fn reachable(w: AdaptiveReceiverPacketWindow, blocks: &[u64], page: usize) -> u64
-    requires { ⌜ (page < 1024) × (3 * (page / 64) + 3 ≤ length (now blocks)) ⌝ }
+    requires { ⌜ (page < 1024) × rowIn blockWords (page / 64) (now blocks) ⌝ }
     ensures { λ r. ⌜ Reachable w (now (blocks .entry)) page r ⌝ }
 {
     if w.retired_held == 0 {

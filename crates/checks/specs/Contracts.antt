@@ -9,7 +9,7 @@ use lib.ListN.{length}
 use Rattle.words.specs.Word.{bitAt, count}
 use Rattle.window.specs.declared.AdaptiveReceiverPacketWindow.{AdaptiveReceiverPacketWindow}
 use Rattle.window.specs.declared.answers.Answer.{Answer}
-use Rattle.window.specs.Memory.{memory, pageCount, blockCount}
+use Rattle.window.specs.Memory.{memory, pageCount, blockCount, pageWords, blockWords}
 use Rattle.model.specs.Window.{Window, decode}
 use Rattle.model.specs.Demand3.{one}
 use Rattle.model.specs.Sound.{Sound}
@@ -52,8 +52,8 @@ pub record HeaderCounts (h : AdaptiveReceiverPacketWindow) (pages blocks : List 
 -- the words of pages and blocks are as many as window_size names
 pub record WordsLent (size : ℕ) (pages blocks : List ℕ) : Type 0 where
   pub size-high : size ≤ 65536
-  pub pages-long : 3 * pageCount size ≤ length pages
-  pub blocks-long : 3 * blockCount size ≤ length blocks
+  pub pages-long : pageWords * pageCount size ≤ length pages
+  pub blocks-long : blockWords * blockCount size ≤ length blocks
 
 module _ (h : AdaptiveReceiverPacketWindow) (ss pages blocks : List ℕ) where
   abbrev windowFor : List ℕ → Window

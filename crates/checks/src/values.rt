@@ -4,11 +4,12 @@ use pages::page_words;
 ghost use mathlib.Core.Path.{_≡_};
 ghost use Prim.Native.Nat.{_+_, _*_, _/_, _≤_, _<_};
 ghost use lib.ListN.{length};
+ghost use Rattle.window.specs.Memory.{pageWords, blockWords, rowIn};
 ghost use Rattle.checks.specs.Clauses.{valuesWhere, valuesAt};
 
 // The values of one page, if it is retired (1) or live (0), as `retired` says; else 0.
 fn values_at(pages: &[u64], blocks: &[u64], retired_blocks: u64, page: usize, retired: u64) -> usize
-    requires { ⌜ (page < 1024) × (3 * page + 3 ≤ length (now pages)) × (3 * (page / 64) + 3 ≤ length (now blocks)) ⌝ }
+    requires { ⌜ (page < 1024) × rowIn pageWords page (now pages) × rowIn blockWords (page / 64) (now blocks) ⌝ }
     ensures { λ r. ⌜ r ≡ valuesAt (now (pages .entry)) (now (blocks .entry)) «retired_blocks» retired page ⌝ }
 {
     if page_retired(blocks, retired_blocks, page) != retired {
@@ -27,7 +28,7 @@ pub fn values_where(
     n: usize,
     retired: u64,
 ) -> usize
-    requires { ⌜ (from + n ≤ 1024) × (3 * (from + n) ≤ length (now pages)) × (3 * ((from + n + 63) / 64) ≤ length (now blocks)) ⌝ }
+    requires { ⌜ (from + n ≤ 1024) × (pageWords * (from + n) ≤ length (now pages)) × (blockWords * ((from + n + 63) / 64) ≤ length (now blocks)) ⌝ }
     ensures { λ r. ⌜ r ≡ valuesWhere (now (pages .entry)) (now (blocks .entry)) «retired_blocks» retired from n ⌝ }
 {
     let mut i: usize = 0;

@@ -95,18 +95,7 @@ fn numbered_step(window: AdaptiveReceiverPacketWindow, answer: NumberedAnswer) -
 fn no_window() -> AdaptiveReceiverPacketWindow
     ensures { λ r. ⌜ r ≡ fresh 0 0 0 ⌝ }
 {
-    AdaptiveReceiverPacketWindow {
-        window_size: 0,
-        n: 0,
-        demote_at: 0,
-        len: 0,
-        retired_held: 0,
-        release_cursor: 0,
-        nonempty_summary: 0,
-        retired_blocks: 0,
-        promotions: 0,
-        demotions: 0,
-    }
+    AdaptiveReceiverPacketWindow::fresh(0, 0, 0)
 }
 
 // What new gives in numbers; a refusal comes with a header of zeros, with which every call is refused 6.

@@ -10,16 +10,14 @@ use Rattle.words.specs.Word.{isSet, withBit, clearBit}
 use Rattle.window.specs.declared.AdaptiveReceiverPacketWindow.{AdaptiveReceiverPacketWindow}
 use Rattle.model.specs.Demand3.{one}
 use Rattle.model.specs.Window.{Window, window, upd}
-use Rattle.model.specs.Steps.{setLen, setSummary, setRetiredBlocks, setPromotions, setDemotions, withHeader, withBlock, block, noteNonempty, countPromotion, countDemotion, dropBlockMarks, splitBlock}
+use Rattle.model.specs.Steps.{setLen, setSummary, setRetiredBlocks, setPromotions, setDemotions, setNonempty, setRetired, setLive, withHeader, withBlock, noteNonempty, countPromotion, countDemotion, dropBlockMarks, splitBlock}
 use Rattle.masks.specs.declared.BlockWords.{BlockWords}
 use Rattle.masks.specs.declared.Change.{Change}
+use Rattle.masks.specs.Blocks.{withNonempty, withRetired, withLive}
 use Rattle.masks.specs.Contracts.{Changes, ChangesHeader, Notes, AddsLive, TakesLive}
 
 abbrev pub change : AdaptiveReceiverPacketWindow → BlockWords → Change
 change h x = record { window = h; block = x }
-
-abbrev pub words : ℕ → ℕ → ℕ → BlockWords
-words nonempty retired live = record { nonempty = nonempty; retired = retired; live = live }
 
 -- a block's words written as they were
 block-own : (v : Window) (b d : ℕ) → upd (v .blocks) b (v .blocks b) d ≡ v .blocks d
@@ -31,32 +29,32 @@ same-block v b = λ i. record { header = v .header; pages = v .pages; blocks = �
 module _ (h : AdaptiveReceiverPacketWindow) (x : BlockWords) where
   -- ---- live values
   pub adds-live : (k len live : ℕ) → len ≡ (h .len + k) % 2 ^ 32 → live ≡ (x .live + k) % 2 ^ 64
-      → AddsLive h x k (change (setLen h len) (words (x .nonempty) (x .retired) live))
+      → AddsLive h x k (change (setLen h len) (withLive x live))
   adds-live k len live p q = record {
     gives = λ room more b. record {
       gives = λ v e f.
           rw (p ∙ mod-eq-of-lt room, q ∙ mod-eq-of-lt more)
           (λ i.
           withBlock (withHeader v (setLen (sym e i) (sym e i .len + k))) b
-          (block (sym f i .nonempty) (sym f i .retired) (sym f i .live + k)));
+          (setLive (sym f i) (sym f i .live + k)));
     };
   }
 
   pub takes-live : (k : ℕ) (w : AdaptiveReceiverPacketWindow) (live : ℕ) → w ≡ setLen h (h .len - k) → live ≡ x .live - k
-      → TakesLive h x k (change w (words (x .nonempty) (x .retired) live))
+      → TakesLive h x k (change w (withLive x live))
   takes-live k w live p q = record {
     gives = λ b. record {
       gives = λ v e f.
           rw (p, q)
           (λ i.
           withBlock (withHeader v (setLen (sym e i) (sym e i .len - k))) b
-          (block (sym f i .nonempty) (sym f i .retired) (sym f i .live - k)));
+          (setLive (sym f i) (sym f i .live - k)));
     };
   }
 
   -- ---- a page that holds a value now, or none
   pub notes : (g : ℕ) (holds emptied : Bool) (y : BlockWords) (summary : ℕ)
-      → y ≡ words (withBit (x .nonempty) (g % 64) (one holds)) (x .retired) (x .live) → eqb (y .nonempty) 0 ≡ emptied
+      → y ≡ withNonempty x (withBit (x .nonempty) (g % 64) (one holds)) → eqb (y .nonempty) 0 ≡ emptied
       → summary ≡ withBit (h .«nonempty_summary») (g / 64) (one (not emptied))
       → Notes h x g holds (change (setSummary h summary) y)
   unfolding noteNonempty
@@ -66,19 +64,19 @@ module _ (h : AdaptiveReceiverPacketWindow) (x : BlockWords) where
         (λ i.
         let word = withBit (sym f i .nonempty) (g % 64) (one (sym o i)) in
         window (setSummary (sym e i) (withBit (sym e i .«nonempty_summary») (g / 64) (one (not (eqb word 0)))))
-        (v .pages) (upd (v .blocks) (g / 64) (block word (sym f i .retired) (sym f i .live))));
+        (v .pages) (upd (v .blocks) (g / 64) (setNonempty (sym f i) word)));
   }
 
   -- ---- a block's mark
   pub splits : (b retiredBlocks : ℕ) → isSet (h .«retired_blocks») b ≡ true → retiredBlocks ≡ clearBit (h .«retired_blocks») b
-      → Changes (λ (v : Window). splitBlock v b) h x b (change (setRetiredBlocks h retiredBlocks) (words (x .nonempty) (x .nonempty) (x .live)))
+      → Changes (λ (v : Window). splitBlock v b) h x b (change (setRetiredBlocks h retiredBlocks) (withRetired x (x .nonempty)))
   unfolding splitBlock
   splits b retiredBlocks t p = record {
     gives = λ v e f.
         rw (ap (λ (u : AdaptiveReceiverPacketWindow). isSet (u .«retired_blocks») b) e ∙ t, p)
         (λ i.
         withBlock (withHeader v (setRetiredBlocks (sym e i) (clearBit (sym e i .«retired_blocks») b))) b
-        (block (sym f i .nonempty) (sym f i .nonempty) (sym f i .live)));
+        (setRetired (sym f i) (sym f i .nonempty)));
   }
 
   pub keeps : (b : ℕ) → isSet (h .«retired_blocks») b ≡ false → Changes (λ (v : Window). splitBlock v b) h x b (change h x)

@@ -6,6 +6,7 @@ use native.Mathlib.Omega.{arith}
 use lib.Bits.{bitAnd, bitOr, and-le-l, or-lt}
 use Rattle.words.specs.Word.{isSet}
 use Rattle.masks.specs.declared.BlockWords.{BlockWords}
+use Rattle.masks.specs.Blocks.{withRetired}
 use Rattle.masks.specs.Marks.{newlyMarked, withMarks}
 use Rattle.words.specs.TestLaws.{and-set, or-set, not-set, word-eq}
 
@@ -25,10 +26,8 @@ module _ (x : BlockWords) (pages : ℕ) where
       ∙ and-comm (isSet (x .nonempty) i && not (isSet (x .retired) i)) (isSet pages i))
 
   pub marks-code : x .retired < 2 ^ 64 → pages < 2 ^ 64
-      → record { nonempty = x .nonempty; retired = bitOr (x .retired) pages; live = x .live } ≡ withMarks x pages
+      → withRetired x (bitOr (x .retired) pages) ≡ withMarks x pages
   unfolding withMarks
-  marks-code h l = λ i. record {
-    nonempty = x .nonempty;
-    retired = word-eq (bitOr (x .retired) pages) (λ (j : ℕ). isSet (x .retired) j || isSet pages j) (or-lt 64 (x .retired) pages h l) (λ j m. or-set (x .retired) pages j) i;
-    live = x .live;
-  }
+  marks-code h l =
+      ap (withRetired x)
+      (word-eq (bitOr (x .retired) pages) (λ (j : ℕ). isSet (x .retired) j || isSet pages j) (or-lt 64 (x .retired) pages h l) (λ j m. or-set (x .retired) pages j))

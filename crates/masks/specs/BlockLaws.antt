@@ -1,21 +1,21 @@
 -- The words of a block in the lent list, and the model's blocks. Assumes nothing.
-use mathlib.Core.Path.{_≡_, refl, sym, ap, _∙_}
+use mathlib.Core.Path.{_≡_, refl, ap, _∙_}
 use mathlib.Core.Bool.{cond}
 use mathlib.Core.List.{List}
-use Prim.Native.Nat.{ℕ, _+_, _*_, _≤_, _<_}
+use Prim.Native.Nat.{ℕ, _*_, _≤_, _<_}
 use native.Mathlib.Omega.{arith}
 use native.Mathlib.Decide.{ℕ-discrete}
 use lib.Dec.{ltb}
 use lib.ListN.{length, getD}
 use borrow.Author.Tests.{lt-ltb, eq-eqb, ne-eqb}
 use Rattle.window.specs.declared.AdaptiveReceiverPacketWindow.{AdaptiveReceiverPacketWindow}
-use Rattle.window.specs.Memory.{Memory, blockCount}
-use Rattle.window.specs.WordListLaws.{words-other, words-first, words-second, words-third}
+use Rattle.window.specs.Memory.{Memory, blockCount, blockWords, rowIn, wordAt}
+use Rattle.window.specs.WordListLaws.{words-other, words-own}
 use Rattle.model.specs.Window.{Block, Window, decode, noBlock, upd}
 use Rattle.model.specs.Steps.{withHeader, withBlock}
 use Rattle.masks.specs.declared.BlockWords.{BlockWords}
 use Rattle.masks.specs.declared.Change.{Change}
-use Rattle.masks.specs.Blocks.{blockWordsAt, withBlockWords, blockOf, changed}
+use Rattle.masks.specs.Blocks.{blockWordsAt, blockRow, withBlockWords, blockOf, changed}
 
 -- the model's block is read from the list
 pub block-at : (h : AdaptiveReceiverPacketWindow) (m : Memory) (b : ℕ) → b < blockCount (h .«window_size»)
@@ -25,29 +25,31 @@ block-at h m b l = rw (lt-ltb b (blockCount (h .«window_size»)) l)
 
 -- ---- the words of one block written
 module _ (blocks : List ℕ) (b : ℕ) (x : BlockWords) where
-  at : (d : ℕ) → 3 * d ≡ 3 * d + 0
-  at d = omega arith
-
   pub with-block-other : (d : ℕ) → (d ≡ b → ⊥) → blockWordsAt (withBlockWords blocks b x) d ≡ blockWordsAt blocks d
   unfolding blockWordsAt
   with-block-other d n = λ i. record {
-    nonempty = (ap (λ (j : ℕ). getD (withBlockWords blocks b x) j 0) (at d) ∙ words-other blocks b (x .nonempty) (x .retired) (x .live) d 0 n (omega arith)
-        ∙ ap (λ (j : ℕ). getD blocks j 0) (sym (at d))) i;
-    retired = words-other blocks b (x .nonempty) (x .retired) (x .live) d 1 n (omega arith) i;
-    live = words-other blocks b (x .nonempty) (x .retired) (x .live) d 2 n (omega arith) i;
+    nonempty = kept 0 (omega arith) i;
+    retired = kept 1 (omega arith) i;
+    live = kept 2 (omega arith) i;
   }
+    where
+      kept : (k : ℕ) → k < blockWords → wordAt blockWords (withBlockWords blocks b x) d k ≡ wordAt blockWords blocks d k
+      kept k l = words-other blockWords blocks b (blockRow x) refl d k n l
 
-  pub with-block-same : 3 * b + 3 ≤ length blocks → blockWordsAt (withBlockWords blocks b x) b ≡ x
+  pub with-block-same : rowIn blockWords b blocks → blockWordsAt (withBlockWords blocks b x) b ≡ x
   unfolding blockWordsAt
   with-block-same l = λ i. record {
-    nonempty = words-first blocks b (x .nonempty) (x .retired) (x .live) l i;
-    retired = words-second blocks b (x .nonempty) (x .retired) (x .live) l i;
-    live = words-third blocks b (x .nonempty) (x .retired) (x .live) l i;
+    nonempty = own 0 (omega arith) i;
+    retired = own 1 (omega arith) i;
+    live = own 2 (omega arith) i;
   }
+    where
+      own : (k : ℕ) → k < blockWords → wordAt blockWords (withBlockWords blocks b x) b k ≡ getD (blockRow x) k 0
+      own = words-own blockWords blocks b (blockRow x) refl l
 
 -- ---- the window read from the list with the words of one block written
 module _ (h : AdaptiveReceiverPacketWindow) (m : Memory) (b : ℕ) (x : BlockWords)
-    (below : b < blockCount (h .«window_size»)) (long : 3 * blockCount (h .«window_size») ≤ length (m .blocks)) where
+    (below : b < blockCount (h .«window_size»)) (long : blockWords * blockCount (h .«window_size») ≤ length (m .blocks)) where
   abbrev written : Memory
   written = record { sequences = m .sequences; values = m .values; pages = m .pages; blocks = withBlockWords (m .blocks) b x }
 
@@ -71,7 +73,7 @@ decode-header h k m e = rw e
 
 -- and with the words of one block written: how a caller reads what a change left
 pub decode-changed : (h : AdaptiveReceiverPacketWindow) (m : Memory) (b : ℕ) (r : Change) → r .window .«window_size» ≡ h .«window_size»
-    → b < blockCount (h .«window_size») → 3 * blockCount (h .«window_size») ≤ length (m .blocks)
+    → b < blockCount (h .«window_size») → blockWords * blockCount (h .«window_size») ≤ length (m .blocks)
     → decode (r .window) (record { sequences = m .sequences; values = m .values; pages = m .pages; blocks = withBlockWords (m .blocks) b (r .block) })
     ≡ changed (decode h m) b r
 decode-changed h m b r e l long =

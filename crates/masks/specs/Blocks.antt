@@ -1,8 +1,7 @@
 -- The words of a block, in the lent list and as the model's block. Definitions only. Assumes nothing.
-use mathlib.Core.List.{List}
-use Prim.Native.Nat.{ℕ, _+_, _*_}
-use lib.ListN.{getD}
-use Rattle.window.specs.Memory.{withWords}
+use mathlib.Core.List.{List, [], _∷_}
+use Prim.Native.Nat.{ℕ}
+use Rattle.window.specs.Memory.{blockWords, wordAt, withWords}
 use Rattle.model.specs.Window.{Block, Window}
 use Rattle.model.specs.Steps.{withHeader, withBlock, block}
 use Rattle.masks.specs.declared.BlockWords.{BlockWords}
@@ -10,11 +9,25 @@ use Rattle.masks.specs.declared.Change.{Change}
 
 -- "3 words (u64) .. for each block"
 unfoldable pub blockWordsAt : List ℕ → ℕ → BlockWords
-blockWordsAt blocks b = record { nonempty = getD blocks (3 * b) 0; retired = getD blocks (3 * b + 1) 0; live = getD blocks (3 * b + 2) 0 }
+blockWordsAt blocks b = record { nonempty = wordAt blockWords blocks b 0; retired = wordAt blockWords blocks b 1; live = wordAt blockWords blocks b 2 }
+
+-- its row in the list
+abbrev pub blockRow : BlockWords → List ℕ
+blockRow x = x .nonempty ∷ x .retired ∷ x .live ∷ []
 
 -- the list with these words for block b
 abbrev pub withBlockWords : List ℕ → ℕ → BlockWords → List ℕ
-withBlockWords blocks b x = withWords blocks b (x .nonempty) (x .retired) (x .live)
+withBlockWords blocks b x = withWords blockWords blocks b (blockRow x)
+
+-- the words with one of them changed
+abbrev pub withNonempty : BlockWords → ℕ → BlockWords
+withNonempty x word = record { nonempty = word; retired = x .retired; live = x .live }
+
+abbrev pub withRetired : BlockWords → ℕ → BlockWords
+withRetired x word = record { nonempty = x .nonempty; retired = word; live = x .live }
+
+abbrev pub withLive : BlockWords → ℕ → BlockWords
+withLive x count = record { nonempty = x .nonempty; retired = x .retired; live = count }
 
 abbrev pub blockOf : BlockWords → Block
 blockOf x = block (x .nonempty) (x .retired) (x .live)

@@ -3,6 +3,7 @@ use mathlib.Core.Bool.{not, cond, _&&_, _||_}
 use Prim.Native.Nat.{ℕ, _/_, _%_, _-_, _^_}
 use Rattle.words.specs.Word.{isSet, bitAt, clearBit, wordOf}
 use Rattle.masks.specs.declared.BlockWords.{BlockWords}
+use Rattle.masks.specs.Blocks.{withRetired}
 
 -- "A retired block bit retires all its pages": the retired pages of block b, whose marks on pages are `retired`
 unfoldable pub retiredPages : ℕ → ℕ → ℕ → ℕ
@@ -18,8 +19,7 @@ newlyMarked x pages = wordOf (λ (i : ℕ). isSet pages i && (isSet (x .nonempty
 
 -- the words with marks on `pages`, and without the mark on page i of the block
 unfoldable pub withMarks : BlockWords → ℕ → BlockWords
-withMarks x pages =
-    record { nonempty = x .nonempty; retired = wordOf (λ (i : ℕ). isSet (x .retired) i || isSet pages i); live = x .live }
+withMarks x pages = withRetired x (wordOf (λ (i : ℕ). isSet (x .retired) i || isSet pages i))
 
 unfoldable pub withoutMark : BlockWords → ℕ → BlockWords
-withoutMark x i = record { nonempty = x .nonempty; retired = clearBit (x .retired) i; live = x .live }
+withoutMark x i = withRetired x (clearBit (x .retired) i)

@@ -3,11 +3,11 @@
 pub mod marks;
 
 use window::AdaptiveReceiverPacketWindow;
-use window::memory::put_words;
+use window::memory::BLOCK_WORDS;
 ghost use mathlib.Core.Path.{_≡_};
 ghost use mathlib.Core.Bool.{true};
-ghost use Prim.Native.Nat.{_+_, _*_, _≤_, _<_};
-ghost use lib.ListN.{length};
+ghost use Prim.Native.Nat.{_<_};
+ghost use Rattle.window.specs.Memory.{blockWords, rowIn};
 ghost use Rattle.model.specs.Steps.{countPromotion, countDemotion};
 ghost use Rattle.masks.specs.Blocks.{blockWordsAt, withBlockWords};
 ghost use Rattle.masks.specs.Contracts.{ChangesHeader, Notes, AddsLive, TakesLive};
@@ -27,10 +27,10 @@ pub struct Change {
 
 // The words of one block.
 pub fn block_words(blocks: &[u64], block: usize) -> BlockWords
-    requires { ⌜ (block < 16) × (3 * block + 3 ≤ length (now blocks)) ⌝ }
+    requires { ⌜ (block < 16) × rowIn blockWords block (now blocks) ⌝ }
     ensures { λ r. ⌜ r ≡ blockWordsAt (now (blocks .entry)) block ⌝ }
 {
-    let a = 3 * block;
+    let a = BLOCK_WORDS * block;
     BlockWords {
         nonempty: blocks[a],
         retired: blocks[a + 1],
@@ -40,10 +40,13 @@ pub fn block_words(blocks: &[u64], block: usize) -> BlockWords
 
 // The words of one block, written.
 pub fn put_block_words(blocks: &mut [u64], block: usize, words: BlockWords)
-    requires { ⌜ (block < 16) × (3 * block + 3 ≤ length (now blocks)) ⌝ }
+    requires { ⌜ (block < 16) × rowIn blockWords block (now blocks) ⌝ }
     ensures { λ _. ⌜ now (blocks .exit) ≡ withBlockWords (now (blocks .entry)) block words ⌝ }
 {
-    put_words(blocks, block, words.nonempty, words.retired, words.live);
+    let a = BLOCK_WORDS * block;
+    blocks[a] = words.nonempty;
+    blocks[a + 1] = words.retired;
+    blocks[a + 2] = words.live;
 }
 
 // Page `page` holds a value now, or none: its bit in the block's nonempty word, and the block's bit in the summary.

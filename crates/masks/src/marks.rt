@@ -2,9 +2,10 @@
 use crate::BlockWords;
 use crate::Change;
 use window::AdaptiveReceiverPacketWindow;
+use window::memory::BLOCK_WORDS;
 ghost use mathlib.Core.Path.{_≡_};
-ghost use Prim.Native.Nat.{_+_, _*_, _/_, _<_, _≤_};
-ghost use lib.ListN.{length};
+ghost use Prim.Native.Nat.{_/_, _<_};
+ghost use Rattle.window.specs.Memory.{blockWords, rowIn};
 ghost use Rattle.model.specs.Steps.{dropBlockMarks, splitBlock};
 ghost use Rattle.masks.specs.Blocks.{blockWordsAt};
 ghost use Rattle.masks.specs.Marks.{retiredPages, pageRetired, newlyMarked, withMarks, withoutMark};
@@ -23,11 +24,11 @@ pub fn retired_pages(retired_blocks: u64, retired: u64, block: usize) -> u64
 
 // Whether a page is retired: 1 or 0.
 pub fn page_retired(blocks: &[u64], retired_blocks: u64, page: usize) -> u64
-    requires { ⌜ (page < 1024) × (3 * (page / 64) + 3 ≤ length (now blocks)) ⌝ }
+    requires { ⌜ (page < 1024) × rowIn blockWords (page / 64) (now blocks) ⌝ }
     ensures { λ r. ⌜ r ≡ pageRetired «retired_blocks» (blockWordsAt (now (blocks .entry)) (page / 64)) page ⌝ }
 {
     let block = page / 64;
-    let retired = blocks[3 * block + 1];
+    let retired = blocks[BLOCK_WORDS * block + 1];
     words::bit(retired_pages(retired_blocks, retired, block), page % 64)
 }
 

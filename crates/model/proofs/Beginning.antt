@@ -15,7 +15,7 @@ use Rattle.words.specs.Word.{bitAt, isSet, countBelow}
 use Rattle.words.specs.BitLaws.{bit-none}
 use Rattle.words.specs.CountLaws.{count-none}
 use Rattle.window.specs.declared.AdaptiveReceiverPacketWindow.{AdaptiveReceiverPacketWindow}
-use Rattle.window.specs.Memory.{Memory, capacity, pageCount, blockCount, zeroed}
+use Rattle.window.specs.Memory.{Memory, capacity, pageCount, blockCount, pageWords, blockWords, zeroed}
 use Rattle.window.specs.MemoryLaws.{page-count-ge}
 use Rattle.window.specs.Refusals.{limits, longEnough}
 use Rattle.window.specs.Refusals.{Within, LongEnough}
@@ -46,9 +46,9 @@ module _ (size n d : ℕ) (m : Memory) where
       (λ i.
       let l = ltb-true g (pageCount size) i in
       rw i (λ j. record {
-        kind = zeroed-at (3 * pageCount size) (m .pages) (3 * g) (omega arith) j;
-        occupied = zeroed-at (3 * pageCount size) (m .pages) (3 * g + 1) (omega arith) j;
-        filled = zeroed-at (3 * pageCount size) (m .pages) (3 * g + 2) (omega arith) j;
+        kind = zeroed-at (pageWords * pageCount size) (m .pages) (pageWords * g + 0) (omega arith) j;
+        occupied = zeroed-at (pageWords * pageCount size) (m .pages) (pageWords * g + 1) (omega arith) j;
+        filled = zeroed-at (pageWords * pageCount size) (m .pages) (pageWords * g + 2) (omega arith) j;
         sequences = cellsAt (m .sequences) g;
         values = cellsAt (m .values) g;
       }))
@@ -60,9 +60,9 @@ module _ (size n d : ℕ) (m : Memory) where
       (λ i.
       let l = ltb-true b (blockCount size) i in
       rw i (λ j. record {
-        nonempty = zeroed-at (3 * blockCount size) (m .blocks) (3 * b) (omega arith) j;
-        retired = zeroed-at (3 * blockCount size) (m .blocks) (3 * b + 1) (omega arith) j;
-        live = zeroed-at (3 * blockCount size) (m .blocks) (3 * b + 2) (omega arith) j;
+        nonempty = zeroed-at (blockWords * blockCount size) (m .blocks) (blockWords * b + 0) (omega arith) j;
+        retired = zeroed-at (blockWords * blockCount size) (m .blocks) (blockWords * b + 1) (omega arith) j;
+        live = zeroed-at (blockWords * blockCount size) (m .blocks) (blockWords * b + 2) (omega arith) j;
       }))
       (λ i. rw i)
 
@@ -249,7 +249,7 @@ module _ (size : ℕ) (u : State) (b : Began size u) where
         long = record {
           sequences-long = long .sequences-long;
           values-long = long .values-long;
-          pages-long = omega (arith, long .pages-long, zeroed-length (3 * pageCount size) (b .lent .pages) (long .pages-long));
-          blocks-long = omega (arith, long .blocks-long, zeroed-length (3 * blockCount size) (b .lent .blocks) (long .blocks-long));
+          pages-long = omega (arith, long .pages-long, zeroed-length (pageWords * pageCount size) (b .lent .pages) (long .pages-long));
+          blocks-long = omega (arith, long .blocks-long, zeroed-length (blockWords * blockCount size) (b .lent .blocks) (long .blocks-long));
         };
       }))

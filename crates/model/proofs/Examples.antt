@@ -8,7 +8,7 @@ use Prim.Native.Nat.{ℕ, zero, suc, _+_, _*_}
 use lib.ListN.{length, replicate}
 use Rattle.words.specs.First.{firstFrom, firstRound}
 use Rattle.words.specs.Word.{bitAt, withBit, countBelow, span, wordBelow, lowest}
-use Rattle.window.specs.Memory.{Memory, memory, capacity, pageCount, blockCount}
+use Rattle.window.specs.Memory.{Memory, memory, capacity, pageCount, blockCount, pageWords, blockWords}
 use Rattle.window.specs.Refusals.{limits, longEnough}
 use Rattle.window.specs.New.{fresh as freshHeader, made, refused as notMade, newResult, cleared, shortMemory, newOf}
 use Rattle.model.specs.Calls.{get, successor-after, first-from, iter, stranger, check, Call, insert, exchange, remove, ask, remove-range, clear, clear-bounded, release-retired, Answer, done, new, absent, found, pair, released, refused}
@@ -46,7 +46,7 @@ after w (c ∷ cs) = after (windowStep w c .after) cs
 -- memory as long as window_size names it, and what an accepted `new` leaves of it
 abbrev lent : ℕ → Memory
 lent size =
-    memory (replicate (capacity size) 0) (replicate (capacity size) 0) (replicate (3 * pageCount size) 0) (replicate (3 * blockCount size) 0)
+    memory (replicate (capacity size) 0) (replicate (capacity size) 0) (replicate (pageWords * pageCount size) 0) (replicate (blockWords * blockCount size) 0)
 
 abbrev afterNew : ℕ → ℕ → ℕ → Window
 afterNew size n d = freshWindow size n d (lent size)
@@ -145,7 +145,7 @@ traps :
     -- "taking a sparse page's lowest position for its lowest cell": 9 came first and is in cell 0; its cell serves again
     × (lines (afterNew 64 8 2) (insert 9 90 true ∷ insert 5 50 true ∷ ask (iter 0) ∷ remove 9 ∷ insert 7 70 true ∷ ask (iter 0) ∷ [])
     ≡ line new 1 0 0 0 [] ∷ line new 2 0 0 0 [] ∷ line (pair 9 90 1) 2 0 0 0 [] ∷ line (found 90) 1 0 0 0 [] ∷ line new 2 0 0 0 [] ∷ line (pair 7 70 1) 2 0 0 0 [] ∷ [])
-unfolding firstFrom firstRound bitAt withBit countBelow span wordBelow lowest capacity freshHeader freshWindow rangeCount sum heldInRange searchFrom cellOf freeCell promoted nthSet packed insertPage drainPage noteNonempty splitBlock releasePage nextRetired releaseUnits revive removeSlots retireInBlock retireBlock retireBlocks retirePages retireStretch retireRange retireAll releasePages insertStep rangeStep clearStep clearBoundedStep releaseStep windowDoes  iterStep exchangeStep removeStep
+unfolding firstFrom firstRound bitAt withBit countBelow span wordBelow lowest capacity freshHeader freshWindow rangeCount sum heldInRange searchFrom cellOf freeCell promoted nthSet packed insertPage drainPage noteNonempty splitBlock releasePage nextRetired releaseUnits revive removeSlots retireInBlock retireBlock retireBlocks retirePages retireStretch retireRange retireAll releasePages insertStep rangeStep clearStep clearBoundedStep releaseStep windowDoes iterStep exchangeStep removeStep
 traps = (refl, refl, refl, refl, refl)
 
 -- ---- stranger: none in an empty window, none in its own range, an alias, a set top bit

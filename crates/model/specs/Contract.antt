@@ -6,7 +6,7 @@ use mathlib.Core.List.{List}
 use Prim.Native.Nat.{ℕ, _*_, _≤_}
 use lib.ListN.{length, take, drop}
 use Rattle.window.specs.declared.AdaptiveReceiverPacketWindow.{AdaptiveReceiverPacketWindow}
-use Rattle.window.specs.Memory.{Memory, capacity, pageCount, blockCount}
+use Rattle.window.specs.Memory.{Memory, capacity, pageCount, blockCount, pageWords, blockWords}
 use Rattle.window.specs.Refusals.{fits}
 use Rattle.model.specs.Calls.{Call, Answer, refused}
 use Rattle.model.specs.Roles.{roleOf}
@@ -44,8 +44,8 @@ refusal u c = first 6 (lengthsFit u) (argumentRefusal (knownBy (u .header)) c)
 pub record SamePast (size : ℕ) (m m′ : Memory) : Type 0 where
   pub sequences : drop (capacity size) (m′ .sequences) ≡ drop (capacity size) (m .sequences)
   pub values : drop (capacity size) (m′ .values) ≡ drop (capacity size) (m .values)
-  pub pages : drop (3 * pageCount size) (m′ .pages) ≡ drop (3 * pageCount size) (m .pages)
-  pub blocks : drop (3 * blockCount size) (m′ .blocks) ≡ drop (3 * blockCount size) (m .blocks)
+  pub pages : drop (pageWords * pageCount size) (m′ .pages) ≡ drop (pageWords * pageCount size) (m .pages)
+  pub blocks : drop (blockWords * blockCount size) (m′ .blocks) ≡ drop (blockWords * blockCount size) (m .blocks)
 
 pub record SameLengths (m m′ : Memory) : Type 0 where
   pub sequences : length (m′ .sequences) ≡ length (m .sequences)

@@ -53,13 +53,24 @@ setPromotions h x = headerWith h (h .len) (h .«retired_held») (h .«release_cu
 abbrev pub setDemotions : AdaptiveReceiverPacketWindow → ℕ → AdaptiveReceiverPacketWindow
 setDemotions h x = headerWith h (h .len) (h .«retired_held») (h .«release_cursor») (h .«nonempty_summary») (h .«retired_blocks») (h .promotions) x
 
+-- ---- changes of a block, one word each
+
+abbrev pub block : (nonempty retired live : ℕ) → Block
+block nonempty retired live = record { nonempty = nonempty; retired = retired; live = live }
+
+abbrev pub setNonempty : Block → ℕ → Block
+setNonempty x word = block word (x .retired) (x .live)
+
+abbrev pub setRetired : Block → ℕ → Block
+setRetired x word = block (x .nonempty) word (x .live)
+
+abbrev pub setLive : Block → ℕ → Block
+setLive x count = block (x .nonempty) (x .retired) count
+
 -- ---- changes of the window
 
 abbrev pub withHeader : Window → AdaptiveReceiverPacketWindow → Window
 withHeader w h = window h (w .pages) (w .blocks)
-
-abbrev pub block : ℕ → ℕ → ℕ → Block
-block nonempty retired live = record { nonempty = nonempty; retired = retired; live = live }
 
 abbrev pub withBlock : Window → ℕ → Block → Window
 withBlock w b x = window (w .header) (w .pages) (upd (w .blocks) b x)
@@ -73,7 +84,7 @@ noteNonempty w g =
     let b = g / 64 in
     let word = withBit (w .blocks b .nonempty) (g % 64) (one (holdsValue (w .pages g))) in
     window (setSummary (w .header) (withBit (w .header .«nonempty_summary») b (one (not (eqb word 0)))))
-    (w .pages) (upd (w .blocks) b (block word (w .blocks b .retired) (w .blocks b .live)))
+    (w .pages) (upd (w .blocks) b (setNonempty (w .blocks b) word))
 
 -- page g replaced, and noted
 abbrev pub putPage : Window → ℕ → Page → Window
@@ -82,11 +93,11 @@ putPage w g p = noteNonempty (withPage w g p) g
 -- k live values more, or fewer, in block b
 abbrev pub addLive : Window → ℕ → ℕ → Window
 addLive w b k =
-    withBlock (withHeader w (setLen (w .header) (w .header .len + k))) b (block (w .blocks b .nonempty) (w .blocks b .retired) (w .blocks b .live + k))
+    withBlock (withHeader w (setLen (w .header) (w .header .len + k))) b (setLive (w .blocks b) (w .blocks b .live + k))
 
 abbrev pub subLive : Window → ℕ → ℕ → Window
 subLive w b k =
-    withBlock (withHeader w (setLen (w .header) (w .header .len - k))) b (block (w .blocks b .nonempty) (w .blocks b .retired) (w .blocks b .live - k))
+    withBlock (withHeader w (setLen (w .header) (w .header .len - k))) b (setLive (w .blocks b) (w .blocks b .live - k))
 
 -- "Promotions and demotions wrap at 2^64"
 abbrev pub countPromotion : Window → Bool → Window
@@ -97,7 +108,7 @@ countDemotion w happened = withHeader w (setDemotions (w .header) ((w .header .d
 
 -- the retired word of block b
 abbrev pub setMarks : Window → ℕ → ℕ → Window
-setMarks w b word = withBlock w b (block (w .blocks b .nonempty) word (w .blocks b .live))
+setMarks w b word = withBlock w b (setRetired (w .blocks b) word)
 
 -- "When none is held, all block marks drop"
 abbrev pub dropBlockMarks : Window → Window
@@ -250,7 +261,7 @@ retireAll w =
     (window
     (setRetiredBlocks (setHeld (setLen (w .header) 0) (w .header .«retired_held» + w .header .len)) (span 0 (blocksOf w)))
     (w .pages)
-    (λ (b : ℕ). cond (ltb b (blocksOf w)) (block (w .blocks b .nonempty) (w .blocks b .retired) 0) (w .blocks b)))
+    (λ (b : ℕ). cond (ltb b (blocksOf w)) (setLive (w .blocks b) 0) (w .blocks b)))
 
 -- "clear_bounded .. releases from page 0, at most its number of values, inspections free, the cursor kept": of n pages from g upwards
 unfoldable pub releasePages : ℕ → ℕ → ℕ → Window → Returned

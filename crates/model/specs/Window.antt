@@ -9,7 +9,7 @@ use lib.ListN.{getD}
 use Rattle.words.specs.First.{firstFrom}
 use Rattle.words.specs.Word.{isSet}
 use Rattle.window.specs.declared.AdaptiveReceiverPacketWindow.{AdaptiveReceiverPacketWindow}
-use Rattle.window.specs.Memory.{Memory, capacity, pageCount, blockCount}
+use Rattle.window.specs.Memory.{Memory, capacity, pageCount, blockCount, pageWords, blockWords, wordAt}
 use Rattle.window.specs.New.{fresh}
 use Rattle.model.specs.Calls.{Answer, done, new, replaced, absent, found, pair, released, refused}
 use Rattle.model.specs.Table.{Pair, pairOf, Table}
@@ -63,9 +63,9 @@ noPage = record { kind = 0; occupied = 0; filled = 0; sequences = λ c. 0; value
 
 abbrev pub pageAt : Memory → ℕ → Page
 pageAt m g = record {
-  kind = getD (m .pages) (3 * g) 0;
-  occupied = getD (m .pages) (3 * g + 1) 0;
-  filled = getD (m .pages) (3 * g + 2) 0;
+  kind = wordAt pageWords (m .pages) g 0;
+  occupied = wordAt pageWords (m .pages) g 1;
+  filled = wordAt pageWords (m .pages) g 2;
   sequences = cellsAt (m .sequences) g;
   values = cellsAt (m .values) g;
 }
@@ -75,9 +75,9 @@ noBlock = record { nonempty = 0; retired = 0; live = 0 }
 
 abbrev pub blockAt : Memory → ℕ → Block
 blockAt m b = record {
-  nonempty = getD (m .blocks) (3 * b) 0;
-  retired = getD (m .blocks) (3 * b + 1) 0;
-  live = getD (m .blocks) (3 * b + 2) 0;
+  nonempty = wordAt blockWords (m .blocks) b 0;
+  retired = wordAt blockWords (m .blocks) b 1;
+  live = wordAt blockWords (m .blocks) b 2;
 }
 
 -- what lies past the named lengths is no part of the window

@@ -1,5 +1,6 @@
 // Whether one page is sound by itself: the part of `check` that looks at a page's words and its 64 cells.
 use pages::PageWords;
+use window::memory::PAGE_SLOTS;
 use window::memory::position;
 ghost use mathlib.Core.Path.{_≡_};
 ghost use Prim.Native.Nat.{_≤_};
@@ -14,7 +15,7 @@ fn cell_sound(kind: u64, n: usize, window_size: u32, page: usize, c: usize, sequ
     requires { ⌜ (1 ≤ kind) × (kind ≤ 2) × («window_size» ≤ 65536) ⌝ }
     ensures { λ r. ⌜ Decides (SoundCell n (capacity «window_size») page kind c sequence) r ⌝ }
 {
-    if position(window_size, sequence) / 64 != page {
+    if position(window_size, sequence) / PAGE_SLOTS != page {
         return false;
     }
     if kind == 1 {

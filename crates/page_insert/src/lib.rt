@@ -1,6 +1,7 @@
 // A value into a page. `sequences` and `values` are the page's 64 cells: a part of the lent memory, which begins at 64 × page.
 use pages::PageWords;
 use pages::find::slot_at;
+use window::memory::PAGE_SLOTS;
 ghost use mathlib.Core.Path.{_≡_};
 ghost use Prim.Native.Nat.{_<_, _≤_};
 ghost use lib.ListN.{length};
@@ -57,13 +58,13 @@ fn put(
 }
 
 // The 64 cells, as an array.
-fn copied(cells: &[u32]) -> [u32; 64]
+fn copied(cells: &[u32]) -> [u32; PAGE_SLOTS]
     requires { ⌜ length (now cells) ≡ 64 ⌝ }
     ensures { λ r. ⌜ r ≡ now (cells .entry) ⌝ }
 {
-    let mut copy = [0u32; 64];
+    let mut copy = [0u32; PAGE_SLOTS];
     let mut c: usize = 0;
-    while c < 64 {
+    while c < PAGE_SLOTS {
         copy[c] = cells[c];
         c += 1;
     }
@@ -71,7 +72,7 @@ fn copied(cells: &[u32]) -> [u32; 64]
 }
 
 // The first n of `from` into `cells`, each to the position of its sequence.
-fn spread(cells: &mut [u32], sequences: &[u32; 64], from: &[u32; 64], n: usize)
+fn spread(cells: &mut [u32], sequences: &[u32; PAGE_SLOTS], from: &[u32; PAGE_SLOTS], n: usize)
     requires { ⌜ (n ≤ 64) × (length (now cells) ≡ 64) ⌝ }
     ensures { λ _. ⌜ now (cells .exit) ≡ spreadOf (now (sequences .entry)) (now (from .entry)) n (now (cells .entry)) ⌝ }
 {
@@ -150,7 +151,7 @@ fn insert_new(
     }
     if words::count(occupied) < n {
         let c = free_cell(filled);
-        if 64 <= c {
+        if PAGE_SLOTS <= c {
             return Inserted {
                 words: w,
                 answer: InsertAnswer::Unsound,
@@ -190,7 +191,7 @@ pub fn insert(
 {
     let slot = (sequence % 64) as usize;
     let c = slot_at(sequences, w, n, slot);
-    if c < 64 {
+    if c < PAGE_SLOTS {
         return replace(sequences, values, w, c, sequence, value);
     }
     insert_new(sequences, values, w, n, sequence, value)

@@ -2,6 +2,7 @@
 use crate::take_cell;
 use pages::PageWords;
 use pages::find::slot_at;
+use window::memory::PAGE_SLOTS;
 ghost use Prim.Native.Nat.{_+_, _<_, _≤_};
 ghost use mathlib.Core.Path.{_≡_};
 ghost use lib.ListN.{length};
@@ -39,7 +40,7 @@ pub fn drain(
         }
         let slot = words::lowest(selected, 0);
         let c = slot_at(sequences, left, n, slot);
-        if 64 <= c {
+        if PAGE_SLOTS <= c {
             sound = false;
             break;
         }

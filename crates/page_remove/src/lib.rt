@@ -5,6 +5,7 @@ pub mod drain;
 use pages::PageWords;
 use pages::find::Read;
 use pages::find::find;
+use window::memory::PAGE_SLOTS;
 ghost use mathlib.Core.Path.{_≡_};
 ghost use Prim.Native.Nat.{_<_};
 ghost use lib.ListN.{length};
@@ -120,7 +121,7 @@ pub fn remove(
 {
     let slot = (sequence % 64) as usize;
     let c = find(sequences, w, n, sequence);
-    if 64 <= c {
+    if PAGE_SLOTS <= c {
         return Removed {
             words: w,
             answer: Read::Absent,

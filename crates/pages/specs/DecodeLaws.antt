@@ -7,12 +7,12 @@ use native.Mathlib.Decide.{ℕ-discrete}
 use lib.ListN.{length, getD}
 use borrow.Author.Tests.{lt-ltb, eq-eqb, ne-eqb}
 use Rattle.window.specs.declared.AdaptiveReceiverPacketWindow.{AdaptiveReceiverPacketWindow}
-use Rattle.window.specs.Memory.{Memory, memory, pageCount}
-use Rattle.window.specs.WordListLaws.{words-other, words-first, words-second, words-third}
+use Rattle.window.specs.Memory.{Memory, memory, pageCount, pageWords, rowIn, wordAt}
+use Rattle.window.specs.WordListLaws.{words-other, words-own}
 use Rattle.model.specs.Window.{decode, pageAt, upd}
 use Rattle.model.specs.Steps.{withPage}
 use Rattle.pages.specs.declared.PageWords.{PageWords}
-use Rattle.pages.specs.Page.{wordsAt, withPageWords, partOf, withPart, cells, page}
+use Rattle.pages.specs.Page.{wordsAt, pageRow, withPageWords, partOf, withPart, cells, page}
 use Rattle.pages.specs.PartLaws.{cells-part, cells-other, part-same}
 
 pub header-at : (h : AdaptiveReceiverPacketWindow) (m : Memory) → decode h m .header ≡ h
@@ -23,9 +23,9 @@ header-at h m = refl
 read-page : (m : Memory) (g : ℕ) → pageAt m g ≡ page (wordsAt (m .pages) g) (partOf g (m .sequences)) (partOf g (m .values))
 unfolding wordsAt
 read-page m g = λ i. record {
-  kind = getD (m .pages) (3 * g) 0;
-  occupied = getD (m .pages) (3 * g + 1) 0;
-  filled = getD (m .pages) (3 * g + 2) 0;
+  kind = wordAt pageWords (m .pages) g 0;
+  occupied = wordAt pageWords (m .pages) g 1;
+  filled = wordAt pageWords (m .pages) g 2;
   sequences = sym (cells-part g (m .sequences)) i;
   values = sym (cells-part g (m .values)) i;
 }
@@ -37,31 +37,34 @@ page-at h m g l = rw (lt-ltb g (pageCount (h .«window_size»)) l) (read-page m 
 
 -- page g written: its words and both its parts
 module _ (m : Memory) (g : ℕ) (x : PageWords) (ss vs : List ℕ)
-    (words : 3 * g + 3 ≤ length (m .pages)) (first : 64 * g + 64 ≤ length (m .sequences)) (second : 64 * g + 64 ≤ length (m .values))
+    (words : rowIn pageWords g (m .pages)) (first : 64 * g + 64 ≤ length (m .sequences)) (second : 64 * g + 64 ≤ length (m .values))
     (full : length ss ≡ 64) (filled : length vs ≡ 64) where
   abbrev pub written : Memory
   written = memory (withPart g (m .sequences) ss) (withPart g (m .values) vs) (withPageWords (m .pages) g x) (m .blocks)
 
   same-page : pageAt written g ≡ page x ss vs
   same-page = λ i. record {
-    kind = words-first (m .pages) g (x .kind) (x .occupied) (x .filled) words i;
-    occupied = words-second (m .pages) g (x .kind) (x .occupied) (x .filled) words i;
-    filled = words-third (m .pages) g (x .kind) (x .occupied) (x .filled) words i;
+    kind = own 0 (omega arith) i;
+    occupied = own 1 (omega arith) i;
+    filled = own 2 (omega arith) i;
     sequences = (sym (cells-part g (withPart g (m .sequences) ss)) ∙ ap cells (part-same g (m .sequences) ss first full)) i;
     values = (sym (cells-part g (withPart g (m .values) vs)) ∙ ap cells (part-same g (m .values) vs second filled)) i;
   }
+    where
+      own : (k : ℕ) → k < pageWords → wordAt pageWords (withPageWords (m .pages) g x) g k ≡ getD (pageRow x) k 0
+      own = words-own pageWords (m .pages) g (pageRow x) refl words
 
   other-page : (r : ℕ) → (r ≡ g → ⊥) → pageAt written r ≡ pageAt m r
   other-page r n = λ i. record {
-    kind = (ap (λ (j : ℕ). getD (withPageWords (m .pages) g x) j 0) (at r) ∙ words-other (m .pages) g (x .kind) (x .occupied) (x .filled) r 0 n (omega arith) ∙ ap (λ (j : ℕ). getD (m .pages) j 0) (sym (at r))) i;
-    occupied = words-other (m .pages) g (x .kind) (x .occupied) (x .filled) r 1 n (omega arith) i;
-    filled = words-other (m .pages) g (x .kind) (x .occupied) (x .filled) r 2 n (omega arith) i;
+    kind = kept 0 (omega arith) i;
+    occupied = kept 1 (omega arith) i;
+    filled = kept 2 (omega arith) i;
     sequences = cells-other g (m .sequences) ss first full r n i;
     values = cells-other g (m .values) vs second filled r n i;
   }
     where
-      at : (r : ℕ) → 3 * r ≡ 3 * r + 0
-      at r = omega arith
+      kept : (k : ℕ) → k < pageWords → wordAt pageWords (withPageWords (m .pages) g x) r k ≡ wordAt pageWords (m .pages) r k
+      kept k l = words-other pageWords (m .pages) g (pageRow x) refl r k n l
 
   pub decode-page : (h : AdaptiveReceiverPacketWindow) → g < pageCount (h .«window_size») → decode h written ≡ withPage (decode h m) g (page x ss vs)
   unfolding decode

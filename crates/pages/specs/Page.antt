@@ -1,12 +1,12 @@
 -- One page read from its words and its part of the lent lists, and its values in their places. Definitions only. Assumes nothing.
 use mathlib.Core.Path.{_≡_}
 use mathlib.Core.Bool.{Bool, cond, _&&_}
-use mathlib.Core.List.{List, _++_}
+use mathlib.Core.List.{List, [], _∷_, _++_}
 use Prim.Native.Nat.{ℕ, _+_, _*_, _/_, _%_, _^_, _≤_, _<_}
 use lib.Dec.{ltb, eqb}
 use lib.ListN.{getD, take, drop}
 use Rattle.words.specs.Word.{bitAt, isSet}
-use Rattle.window.specs.Memory.{withWords}
+use Rattle.window.specs.Memory.{pageWords, wordAt, withWords}
 use Rattle.model.specs.Window.{Page}
 use Rattle.model.specs.Sound.{Used}
 use Rattle.pages.specs.declared.PageWords.{PageWords}
@@ -14,11 +14,15 @@ use Rattle.pages.specs.declared.PageWords.{PageWords}
 -- ---- words: "3 words (u64) for each page"
 
 unfoldable pub wordsAt : List ℕ → ℕ → PageWords
-wordsAt pages g = record { kind = getD pages (3 * g) 0; occupied = getD pages (3 * g + 1) 0; filled = getD pages (3 * g + 2) 0 }
+wordsAt pages g = record { kind = wordAt pageWords pages g 0; occupied = wordAt pageWords pages g 1; filled = wordAt pageWords pages g 2 }
+
+-- its row in the list
+abbrev pub pageRow : PageWords → List ℕ
+pageRow w = w .kind ∷ w .occupied ∷ w .filled ∷ []
 
 -- the list with these words for page g
 abbrev pub withPageWords : List ℕ → ℕ → PageWords → List ℕ
-withPageWords pages g w = withWords pages g (w .kind) (w .occupied) (w .filled)
+withPageWords pages g w = withWords pageWords pages g (pageRow w)
 
 -- ---- cells: "A page's 64 cells are handed out as a part of the lent memory that begins at 64 × page"
 

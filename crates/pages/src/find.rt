@@ -1,5 +1,6 @@
 // Where a page's value is, and reading it. `sequences` and `values` are the 64 cells of the page.
 use crate::PageWords;
+use window::memory::PAGE_SLOTS;
 ghost use mathlib.Core.Path.{_≡_};
 ghost use Prim.Native.Nat.{_<_};
 ghost use lib.ListN.{length};
@@ -42,16 +43,16 @@ pub fn slot_at(sequences: &[u32], w: PageWords, n: usize, slot: usize) -> usize
         if words::bit(filled, slot) == 1 {
             return slot;
         }
-        return 64;
+        return PAGE_SLOTS;
     }
     if words::bit(occupied, slot) == 0 {
-        return 64;
+        return PAGE_SLOTS;
     }
     let c = sparse_slot_at(sequences, filled, n, slot);
     if c < n {
         return c;
     }
-    64
+    PAGE_SLOTS
 }
 
 // The cell that holds the sequence; 64 if none does.
@@ -61,12 +62,12 @@ pub fn find(sequences: &[u32], w: PageWords, n: usize, sequence: u32) -> usize
 {
     let slot = (sequence % 64) as usize;
     let c = slot_at(sequences, w, n, slot);
-    if c < 64 {
+    if c < PAGE_SLOTS {
         if sequences[c] == sequence {
             return c;
         }
     }
-    64
+    PAGE_SLOTS
 }
 
 // The value of the sequence.
@@ -75,7 +76,7 @@ pub fn get(sequences: &[u32], values: &[u32], w: PageWords, n: usize, sequence: 
     ensures { λ r. ⌜ Reads n w (now (sequences .entry)) (now (values .entry)) sequence r ⌝ }
 {
     let c = find(sequences, w, n, sequence);
-    if c < 64 {
+    if c < PAGE_SLOTS {
         return Read::Value(values[c]);
     }
     Read::Absent
@@ -94,7 +95,7 @@ pub fn exchange(
     ensures { λ r. ⌜ Exchanges n w (now (sequences .entry)) (now (values .entry)) sequence value r (now (values .exit)) ⌝ }
 {
     let c = find(sequences, w, n, sequence);
-    if c < 64 {
+    if c < PAGE_SLOTS {
         let old = values[c];
         values[c] = value;
         return Read::Value(old);

@@ -1,10 +1,12 @@
-// One page of the window: its three words, its 64 cells as a part of the lent memory, and how its values are found and read.
+// One page of the window: its words, its 64 cells as a part of the lent memory, and how its values are found and read.
 pub mod find;
 
-use window::memory::put_words;
+use window::memory::PAGE_SLOTS;
+use window::memory::PAGE_WORDS;
 ghost use mathlib.Core.Path.{_≡_};
 ghost use Prim.Native.Nat.{_+_, _*_, _≤_, _<_};
 ghost use lib.ListN.{length};
+ghost use Rattle.window.specs.Memory.{pageWords, rowIn};
 ghost use Rattle.pages.specs.Page.{wordsAt, withPageWords, partOf};
 
 // kind: 0 none, 1 sparse, 2 dense. occupied: bit p, position p of the page has a value. filled: bit c, cell c is in use.
@@ -16,10 +18,10 @@ pub struct PageWords {
 
 // The words of one page.
 pub fn page_words(pages: &[u64], page: usize) -> PageWords
-    requires { ⌜ (page < 1024) × (3 * page + 3 ≤ length (now pages)) ⌝ }
+    requires { ⌜ (page < 1024) × rowIn pageWords page (now pages) ⌝ }
     ensures { λ r. ⌜ r ≡ wordsAt (now (pages .entry)) page ⌝ }
 {
-    let a = 3 * page;
+    let a = PAGE_WORDS * page;
     PageWords {
         kind: pages[a],
         occupied: pages[a + 1],
@@ -29,10 +31,13 @@ pub fn page_words(pages: &[u64], page: usize) -> PageWords
 
 // The words of one page, written.
 pub fn put_page_words(pages: &mut [u64], page: usize, words: PageWords)
-    requires { ⌜ (page < 1024) × (3 * page + 3 ≤ length (now pages)) ⌝ }
+    requires { ⌜ (page < 1024) × rowIn pageWords page (now pages) ⌝ }
     ensures { λ _. ⌜ now (pages .exit) ≡ withPageWords (now (pages .entry)) page words ⌝ }
 {
-    put_words(pages, page, words.kind, words.occupied, words.filled);
+    let a = PAGE_WORDS * page;
+    pages[a] = words.kind;
+    pages[a + 1] = words.occupied;
+    pages[a + 2] = words.filled;
 }
 
 // The 64 cells of one page: a part of the lent memory, which begins at 64 × page.
@@ -40,7 +45,7 @@ pub fn page_cells(cells: &[u32], page: usize) -> &[u32]
     requires { ⌜ 64 * page + 64 ≤ length (now cells) ⌝ }
     ensures { λ r. ⌜ now r ≡ partOf page (now (cells .entry)) ⌝ }
 {
-    let from = 64 * page;
-    let to = from + 64;
+    let from = PAGE_SLOTS * page;
+    let to = from + PAGE_SLOTS;
     &cells[from..to]
 }

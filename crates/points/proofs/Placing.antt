@@ -9,7 +9,7 @@ use borrow.Author.Tests.{lt-ltb, eq-eqb, ne-eqb}
 use borrow.Rule.Slice.PartMut.{putMid}
 use Rattle.window.specs.declared.AdaptiveReceiverPacketWindow.{AdaptiveReceiverPacketWindow}
 use Rattle.window.specs.declared.answers.Step.{Step}
-use Rattle.window.specs.Memory.{Memory, memory, capacity, pageCount, blockCount}
+use Rattle.window.specs.Memory.{Memory, memory, capacity, pageCount, blockCount, pageWords, blockWords}
 use Rattle.window.specs.Refusals.{Fits}
 use Rattle.model.specs.Calls.{Call, refused}
 use Rattle.model.specs.Window.{Page, Window, decode, pageAt, upd}
@@ -105,7 +105,7 @@ module _ (h : AdaptiveReceiverPacketWindow) (m : Memory) (g : ℕ) (below : g < 
 
   -- its words w written too, and those of its block with the header r
   pub decode-kept : (P : Change → Type 0) (w : PageWords) (r : AdaptiveReceiverPacketWindow) (pages blocks : List ℕ) (t : Stores P (m .pages) (m .blocks) g w r pages blocks)
-      → r .«window_size» ≡ h .«window_size» → 3 * pageCount (h .«window_size») ≤ length (m .pages) → 3 * blockCount (h .«window_size») ≤ length (m .blocks)
+      → r .«window_size» ≡ h .«window_size» → pageWords * pageCount (h .«window_size») ≤ length (m .pages) → blockWords * blockCount (h .«window_size») ≤ length (m .blocks)
       → decode r (memory ss vs pages blocks) ≡ changed (withPage (decode h m) g (page w (a .part) (b .part))) (g / 64) (change P (m .pages) (m .blocks) g w r pages blocks t)
   decode-kept P w r pages blocks t same third fourth =
       (λ i. decode r (memory (a .are i) (b .are i) pages blocks))

@@ -9,7 +9,7 @@ use lib.ListN.{length}
 use Rattle.window.specs.declared.AdaptiveReceiverPacketWindow.{AdaptiveReceiverPacketWindow}
 use Rattle.window.specs.declared.answers.Answer.the-variants.{Absent}
 use Rattle.window.specs.declared.answers.Step.{Step}
-use Rattle.window.specs.Memory.{Memory, position, pageCount}
+use Rattle.window.specs.Memory.{Memory, position, pageCount, pageWords, blockWords}
 use Rattle.window.specs.MemoryLaws.{position-slot}
 use Rattle.window.specs.Refusals.{Fits}
 use Rattle.model.specs.Calls as model
@@ -44,8 +44,8 @@ pub record InLists (g n sequences values pages blocks : ℕ) : Type 0 where
   pub page-fits : g < 1024
   pub in-sequences : 64 * g + 64 ≤ sequences
   pub in-values : 64 * g + 64 ≤ values
-  pub in-pages : 3 * g + 3 ≤ pages
-  pub in-blocks : 3 * (g / 64) + 3 ≤ blocks
+  pub in-pages : pageWords * g + pageWords ≤ pages
+  pub in-blocks : blockWords * (g / 64) + blockWords ≤ blocks
   pub cells : (0 < n) × (n < 64)
 
 pub in-lists : (h : AdaptiveReceiverPacketWindow) (a b c d s p : ℕ) → Fits h a b c d → p ≡ position (h .«window_size») s → InLists (p / 64) (h .n) a b c d

@@ -16,7 +16,7 @@ use Rattle.window.specs.declared.answers.Answer.the-variants.{Done, New, Replac
 use Rattle.window.specs.declared.answers.Step.{Step}
 use Rattle.window.specs.declared.refusals.Refusal.{Refusal}
 use Rattle.window.specs.declared.refusals.Refusal.the-variants.{Unsound}
-use Rattle.window.specs.Memory.{Memory, memory, pageCount, blockCount}
+use Rattle.window.specs.Memory.{Memory, memory, pageCount, blockCount, pageWords, blockWords}
 use Rattle.model.specs.Calls as model
 use Rattle.model.specs.Table.{putAnswer}
 use Rattle.model.specs.Window.{Page, Window, decode, isRetired, pagesOf}
@@ -150,8 +150,8 @@ module _ (h : AdaptiveReceiverPacketWindow) (m : Memory) (g n s v : ℕ) (l : Li
         sound = subst Sound (sym there) (is .proper .sound);
         cells = ap (λ (y : AdaptiveReceiverPacketWindow). y .n) header ∙ is .cells ∙ q .cells;
         below = subst (λ (k : ℕ). g < pageCount k) (sym size) (q .below);
-        pages-long = subst (λ (k : ℕ). 3 * pageCount k ≤ length pages₁) (sym size) (omega (arith, q .pages-long, t .within .pages-long));
-        blocks-long = subst (λ (k : ℕ). 3 * blockCount k ≤ length blocks₁) (sym size) (omega (arith, q .blocks-long, t .within .blocks-long));
+        pages-long = subst (λ (k : ℕ). pageWords * pageCount k ≤ length pages₁) (sym size) (omega (arith, q .pages-long, t .within .pages-long));
+        blocks-long = subst (λ (k : ℕ). blockWords * blockCount k ≤ length blocks₁) (sym size) (omega (arith, q .blocks-long, t .within .blocks-long));
       }
 
       ok-page : Placed n (revived .pages g)

@@ -9,7 +9,7 @@ use Rattle.window.specs.declared.answers.Answer.{Answer}
 use Rattle.window.specs.declared.answers.Answer.the-variants.{Refused}
 use Rattle.window.specs.declared.answers.Step.{Step}
 use Rattle.window.specs.declared.refusals.Refusal.the-variants.{Unsound}
-use Rattle.window.specs.Memory.{Memory, pageCount, blockCount}
+use Rattle.window.specs.Memory.{Memory, pageCount, blockCount, pageWords, blockWords}
 use Rattle.model.specs.Calls as model
 use Rattle.model.specs.Window.{Window, decode}
 use Rattle.model.specs.Pages as one
@@ -100,8 +100,8 @@ module _ (h : AdaptiveReceiverPacketWindow) (m : Memory) (g n : ℕ) where
     pub sound : Sound (decode h m)
     pub cells : h .n ≡ n
     pub below : g < pageCount (h .«window_size»)
-    pub pages-long : 3 * pageCount (h .«window_size») ≤ length (m .pages)
-    pub blocks-long : 3 * blockCount (h .«window_size») ≤ length (m .blocks)
+    pub pages-long : pageWords * pageCount (h .«window_size») ≤ length (m .pages)
+    pub blocks-long : blockWords * blockCount (h .«window_size») ≤ length (m .blocks)
 
   pub record InsertsLive (s v : ℕ) (p : Put) (m′ : Memory) : Type 0 where
     pub only : PageOnly g m m′

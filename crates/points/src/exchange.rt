@@ -13,6 +13,7 @@ use pages::page_words;
 use window::AdaptiveReceiverPacketWindow;
 use window::answers::Answer;
 use window::answers::Step;
+use window::memory::PAGE_SLOTS;
 use window::memory::position;
 use window::refusals::Verdict;
 ghost use Prim.Native.Nat.{_+_, _*_, _≤_, _<_};
@@ -37,8 +38,8 @@ fn exchange_in_page(
     ensures { λ r. ⌜ ExchangesIn page n words (now (sequences .entry)) (now (values .entry)) sequence value r (now (values .exit)) ⌝ }
 {
     let cells = page_cells(sequences, page);
-    let from = 64 * page;
-    let to = from + 64;
+    let from = PAGE_SLOTS * page;
+    let to = from + PAGE_SLOTS;
     pages::find::exchange(cells, &mut values[from..to], words, n, sequence, value)
 }
 
@@ -56,7 +57,7 @@ fn exchange_value(
     ensures { λ r. ⌜ AdmittedBy (exchangeOf sequence value) w sequences values pages blocks r ⌝ }
 {
     let n = w.n as usize;
-    let page = position(w.window_size, sequence) / 64;
+    let page = position(w.window_size, sequence) / PAGE_SLOTS;
     if reachable(w, blocks, page) == 0 {
         return reply(w, Answer::Absent);
     }

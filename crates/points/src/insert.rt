@@ -14,11 +14,13 @@ use window::AdaptiveReceiverPacketWindow;
 use window::answers::Answer;
 use window::answers::Outcome;
 use window::answers::Step;
+use window::memory::PAGE_SLOTS;
 use window::memory::position;
 use window::refusals::Refusal;
 use window::refusals::Verdict;
 ghost use Prim.Native.Nat.{_+_, _*_, _/_, _≤_, _<_};
 ghost use lib.ListN.{length};
+ghost use Rattle.window.specs.Memory.{pageWords, blockWords, rowIn};
 ghost use Rattle.window.specs.Lent.{ListsFit, foundIn, leftIn};
 ghost use Rattle.model.specs.Calls.{insert as insertOf};
 ghost use Rattle.calls.specs.Answers.{MeetsInto};
@@ -44,8 +46,8 @@ fn insert_in_page(
     requires { ⌜ (page < 1024) × (64 * page + 64 ≤ length (now sequences)) × (64 * page + 64 ≤ length (now values)) × (0 < n) × (n < 64) ⌝ }
     ensures { λ r. ⌜ InsertsIn page n words (now (sequences .entry)) (now (values .entry)) sequence value r (now (sequences .exit)) (now (values .exit)) ⌝ }
 {
-    let from = 64 * page;
-    let to = from + 64;
+    let from = PAGE_SLOTS * page;
+    let to = from + PAGE_SLOTS;
     page_insert::insert(
         &mut sequences[from..to],
         &mut values[from..to],
@@ -64,7 +66,7 @@ fn keep(
     page: usize,
     r: Inserted,
 ) -> Put
-    requires { ⌜ (page < 1024) × (3 * page + 3 ≤ length (now pages)) × (3 * (page / 64) + 3 ≤ length (now blocks)) ⌝ }
+    requires { ⌜ (page < 1024) × (rowIn pageWords page (now pages)) × (rowIn blockWords (page / 64) (now blocks)) ⌝ }
     ensures { λ p. ⌜ Keeps w (now (pages .entry)) (now (blocks .entry)) page r p (now (pages .exit)) (now (blocks .exit)) ⌝ }
 {
     let words = r.words;
@@ -105,8 +107,8 @@ fn insert_live(
     sequence: u32,
     value: u32,
 ) -> Put
-    requires { ⌜ (page < 1024) × (64 * page + 64 ≤ length (now sequences)) × (64 * page + 64 ≤ length (now values)) × (3 * page + 3 ≤ length (now pages)) ⌝ }
-    requires { ⌜ (3 * (page / 64) + 3 ≤ length (now blocks)) × (0 < n) × (n < 64) ⌝ }
+    requires { ⌜ (page < 1024) × (64 * page + 64 ≤ length (now sequences)) × (64 * page + 64 ≤ length (now values)) × (rowIn pageWords page (now pages)) ⌝ }
+    requires { ⌜ (rowIn blockWords (page / 64) (now blocks)) × (0 < n) × (n < 64) ⌝ }
     ensures { λ p. ⌜ InsertsLive w (foundIn sequences values pages blocks) page n sequence value p (leftIn sequences values pages blocks) ⌝ }
 {
     let words = page_words(pages, page);
@@ -126,8 +128,8 @@ fn made_live(
     n: usize,
     reach: u64,
 ) -> PageReleased
-    requires { ⌜ (page < 1024) × (64 * page + 64 ≤ length (now sequences)) × (64 * page + 64 ≤ length (now values)) × (3 * page + 3 ≤ length (now pages)) ⌝ }
-    requires { ⌜ (3 * (page / 64) + 3 ≤ length (now blocks)) × (n < 64) × (64 ≤ length (now returned)) ⌝ }
+    requires { ⌜ (page < 1024) × (64 * page + 64 ≤ length (now sequences)) × (64 * page + 64 ≤ length (now values)) × (rowIn pageWords page (now pages)) ⌝ }
+    requires { ⌜ (rowIn blockWords (page / 64) (now blocks)) × (n < 64) × (64 ≤ length (now returned)) ⌝ }
     ensures { λ r. ⌜ MakesLive w n (foundIn sequences values pages blocks) (now (returned .entry)) page reach r (leftIn sequences values pages blocks) (now (returned .exit)) ⌝ }
 {
     if reach == 0 {
@@ -167,8 +169,8 @@ fn enter(
     sequence: u32,
     value: u32,
 ) -> Step
-    requires { ⌜ (page < 1024) × (64 * page + 64 ≤ length (now sequences)) × (64 * page + 64 ≤ length (now values)) × (3 * page + 3 ≤ length (now pages)) ⌝ }
-    requires { ⌜ (3 * (page / 64) + 3 ≤ length (now blocks)) × (0 < n) × (n < 64) × (live .count ≤ 64) ⌝ }
+    requires { ⌜ (page < 1024) × (64 * page + 64 ≤ length (now sequences)) × (64 * page + 64 ≤ length (now values)) × (rowIn pageWords page (now pages)) ⌝ }
+    requires { ⌜ (rowIn blockWords (page / 64) (now blocks)) × (0 < n) × (n < 64) × (live .count ≤ 64) ⌝ }
     ensures { λ r. ⌜ Enters live (foundIn sequences values pages blocks) page n reach sequence value r (leftIn sequences values pages blocks) ⌝ }
 {
     let window = live.window;
@@ -217,7 +219,7 @@ fn insert_value(
     ensures { λ r. ⌜ AdmittedInto (insertOf sequence value) w sequences values pages blocks returned r ⌝ }
 {
     let n = w.n as usize;
-    let page = position(w.window_size, sequence) / 64;
+    let page = position(w.window_size, sequence) / PAGE_SLOTS;
     let reach = reachable(w, blocks, page);
     let live = made_live(
         w,

@@ -13,10 +13,12 @@ use updates::store::store_removed;
 use window::AdaptiveReceiverPacketWindow;
 use window::answers::Answer;
 use window::answers::Step;
+use window::memory::PAGE_SLOTS;
 use window::memory::position;
 use window::refusals::Verdict;
 ghost use Prim.Native.Nat.{_+_, _*_, _/_, _≤_, _<_};
 ghost use lib.ListN.{length};
+ghost use Rattle.window.specs.Memory.{pageWords, blockWords, rowIn};
 ghost use Rattle.window.specs.Lent.{ListsFit};
 ghost use Rattle.model.specs.Calls.{remove as removeOf};
 ghost use Rattle.calls.specs.Answers.{MeetsBy};
@@ -36,8 +38,8 @@ fn remove_in_page(
     requires { ⌜ (page < 1024) × (64 * page + 64 ≤ length (now sequences)) × (64 * page + 64 ≤ length (now values)) × (n < 64) ⌝ }
     ensures { λ r. ⌜ RemovesIn page n words (now (sequences .entry)) (now (values .entry)) «demote_at» sequence r (now (sequences .exit)) (now (values .exit)) ⌝ }
 {
-    let from = 64 * page;
-    let to = from + 64;
+    let from = PAGE_SLOTS * page;
+    let to = from + PAGE_SLOTS;
     page_remove::remove(
         &mut sequences[from..to],
         &mut values[from..to],
@@ -58,7 +60,7 @@ fn keep_removed(
     demoted: bool,
     read: Read,
 ) -> Step
-    requires { ⌜ (page < 1024) × (3 * page + 3 ≤ length (now pages)) × (3 * (page / 64) + 3 ≤ length (now blocks)) ⌝ }
+    requires { ⌜ (page < 1024) × (rowIn pageWords page (now pages)) × (rowIn blockWords (page / 64) (now blocks)) ⌝ }
     ensures { λ r. ⌜ KeepsRemoved w (now (pages .entry)) (now (blocks .entry)) page words demoted read r (now (pages .exit)) (now (blocks .exit)) ⌝ }
 {
     if let Read::Value(value) = read {
@@ -82,7 +84,7 @@ fn remove_value(
 {
     let n = w.n as usize;
     let demote_at = w.demote_at as usize;
-    let page = position(w.window_size, sequence) / 64;
+    let page = position(w.window_size, sequence) / PAGE_SLOTS;
     if reachable(w, blocks, page) == 0 {
         return reply(w, Answer::Absent);
     }

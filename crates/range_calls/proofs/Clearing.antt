@@ -9,7 +9,7 @@ use borrow.Author.Tests.{le-leb}
 use Rattle.words.specs.Cases.{bool}
 use Rattle.window.specs.declared.AdaptiveReceiverPacketWindow.{AdaptiveReceiverPacketWindow}
 use Rattle.window.specs.declared.answers.Answer.the-variants.{Done, Found}
-use Rattle.window.specs.Memory.{memory, pageCount, blockCount}
+use Rattle.window.specs.Memory.{memory, pageCount, blockCount, pageWords, blockWords}
 use Rattle.window.specs.MemoryLaws.{capacity-le}
 use Rattle.window.specs.Refusals.{Fits}
 use Rattle.model.specs.Calls.{clear, clear-bounded, done, found}
@@ -65,9 +65,9 @@ module _ (h : AdaptiveReceiverPacketWindow) (ss vs pages blocks : List ℕ) (h�
   both-within pages′ blocks′ t = record {
     pages-long = t .pages-long;
     blocks-long = t .blocks-long ∙ all .touches .long;
-    pages-past = subst (λ (n : ℕ). drop (3 * pageCount n) pages′ ≡ drop (3 * pageCount n) pages) same-size (t .pages-past);
+    pages-past = subst (λ (n : ℕ). drop (pageWords * pageCount n) pages′ ≡ drop (pageWords * pageCount n) pages) same-size (t .pages-past);
     blocks-past =
-        subst (λ (n : ℕ). drop (3 * blockCount n) blocks′ ≡ drop (3 * blockCount n) blocks₁) same-size (t .blocks-past)
+        subst (λ (n : ℕ). drop (blockWords * blockCount n) blocks′ ≡ drop (blockWords * blockCount n) blocks₁) same-size (t .blocks-past)
         ∙ all .touches .past (blockCount (h .«window_size»)) (omega arith);
   }
 

@@ -69,4 +69,3 @@ module _ (w : AdaptiveReceiverPacketWindow) (a : Answer) (k : ℕ) (sound : Bool
   finished-sound e = rw e
 
 -- ---- refusal 8, for a number above 256
-

@@ -10,6 +10,7 @@ use ranges::range::retire_range;
 use window::AdaptiveReceiverPacketWindow;
 use window::answers::Answer;
 use window::answers::Step;
+use window::memory::PAGE_SLOTS;
 use window::memory::position;
 use window::refusals::Verdict;
 ghost use Prim.Native.Nat.{_≤_, _<_};
@@ -35,7 +36,7 @@ fn ready(w: AdaptiveReceiverPacketWindow, held: u32, start: usize) -> AdaptiveRe
         return settle_retired(w);
     }
     let mut window = w;
-    window.release_cursor = (start / 64) as u32;
+    window.release_cursor = (start / PAGE_SLOTS) as u32;
     settle_retired(window)
 }
 

@@ -10,7 +10,7 @@ use lib.ListN.{length, drop}
 use borrow.Author.Tests.{eq-eqb, ne-eqb, le-leb, lt-leb, lt-ltb, le-ltb}
 use Rattle.words.specs.Word.{isSet, span}
 use Rattle.window.specs.declared.AdaptiveReceiverPacketWindow.{AdaptiveReceiverPacketWindow}
-use Rattle.window.specs.Memory.{Memory, memory, capacity, pageCount, blockCount}
+use Rattle.window.specs.Memory.{Memory, memory, capacity, pageCount, blockCount, pageWords, blockWords}
 use Rattle.window.specs.MemoryLaws.{capacity-pages, page-count-le}
 use Rattle.model.specs.Table.{within}
 use Rattle.model.specs.Window.{Window, decode, isRetired, capacityOf}
@@ -168,7 +168,7 @@ module _ (h : AdaptiveReceiverPacketWindow) (m : Memory) (at : ℕ) (l : List �
   to-inside = rw same-size (omega (arith, capacity-pages (h .«window_size»)))
 
   -- the whole pages are in the lists
-  pub across-pages : (e / 64 ≤ 1024) × (3 * (e / 64) ≤ length pages) × (3 * ((e / 64 + 63) / 64) ≤ length blocks)
+  pub across-pages : (e / 64 ≤ 1024) × (pageWords * (e / 64) ≤ length pages) × (blockWords * ((e / 64 + 63) / 64) ≤ length blocks)
   across-pages = (
     omega (arith, to-inside, page-count-le (ends .window .«window_size»)),
     omega (arith, to-inside, ends-fit .long .pages-long),
@@ -185,7 +185,7 @@ module _ (h : AdaptiveReceiverPacketWindow) (m : Memory) (at : ℕ) (l : List �
     is : retireStretch w a e ≡ returnedBy (retirePages (endPages w a e .after) from to) (endPages w a e .out)
     is = stretch-is w a e (λ q. omega arith)
 
-    blocks-same : drop (3 * blockCount (h .«window_size»)) blocks′ ≡ drop (3 * blockCount (h .«window_size»)) blocks
+    blocks-same : drop (blockWords * blockCount (h .«window_size»)) blocks′ ≡ drop (blockWords * blockCount (h .«window_size»)) blocks
     blocks-same = u .touches .past (blockCount (h .«window_size»)) (omega (arith, to-inside, same-size))
 
     pub span-across : Performs (λ (v : Window). retireStretch v a e) (partial a + partial e) h m at l (record { window = r; count = ends .count; sound = ends .sound }) (memory ss vs pages blocks′) l′

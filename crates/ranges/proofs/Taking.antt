@@ -12,7 +12,7 @@ use borrow.Author.Tests.{eq-eqb, ne-eqb}
 use Rattle.words.specs.Cases.{bool}
 use Rattle.words.specs.Word.{isSet}
 use Rattle.window.specs.declared.AdaptiveReceiverPacketWindow.{AdaptiveReceiverPacketWindow}
-use Rattle.window.specs.Memory.{Memory, memory, capacity, pageCount, blockCount}
+use Rattle.window.specs.Memory.{Memory, memory, capacity, pageCount, blockCount, pageWords, blockWords}
 use Rattle.window.specs.MemoryLaws.{capacity-pages, page-count-le}
 use Rattle.window.specs.Refusals.{Fits}
 use Rattle.model.specs.Window.{Page, Window, window, decode, isRetired}
@@ -49,8 +49,8 @@ pub record PageIn (h : AdaptiveReceiverPacketWindow) (g s v p b : ℕ) : Type 0 
   pub few : g < 1024
   pub sequences : 64 * g + 64 ≤ s
   pub values : 64 * g + 64 ≤ v
-  pub words : 3 * g + 3 ≤ p
-  pub block : 3 * (g / 64) + 3 ≤ b
+  pub words : pageWords * g + pageWords ≤ p
+  pub block : blockWords * (g / 64) + blockWords ≤ b
   pub block-below : g / 64 < blockCount (h .«window_size»)
   pub cells : h .n < 64
 

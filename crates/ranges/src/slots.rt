@@ -13,7 +13,7 @@ use window::AdaptiveReceiverPacketWindow;
 ghost use Prim.Native.Nat.{_+_, _*_, _≤_, _<_};
 ghost use lib.ListN.{length};
 ghost use Rattle.words.specs.Word.{isSet};
-ghost use Rattle.window.specs.Memory.{memory, pageCount};
+ghost use Rattle.window.specs.Memory.{memory, pageCount, pageWords, rowIn};
 ghost use Rattle.window.specs.Refusals.{Fits};
 ghost use Rattle.model.specs.Steps.{removeSlots};
 ghost use Rattle.pages.specs.Page.{wordsAt, partOf};
@@ -32,7 +32,7 @@ fn drain_slots(
     slots: u64,
     at: usize,
 ) -> Drained
-    requires { ⌜ (page < 1024) × (64 * page + 64 ≤ length (now sequences)) × (64 * page + 64 ≤ length (now values)) × (3 * page + 3 ≤ length (now pages)) ⌝ }
+    requires { ⌜ (page < 1024) × (64 * page + 64 ≤ length (now sequences)) × (64 * page + 64 ≤ length (now values)) × (rowIn pageWords page (now pages)) ⌝ }
     requires { ⌜ (n < 64) × (at + 64 ≤ length (now returned)) ⌝ }
     ensures { λ r. ⌜ Drains n (wordsAt (now (pages .entry)) page) (partOf page (now (sequences .entry))) (partOf page (now (values .entry))) slots at 64 (now (returned .entry)) r (now (returned .exit)) ⌝ }
 {

@@ -3,6 +3,7 @@ use crate::Retired;
 use crate::slots::remove_slots;
 use retires::run::retire_pages;
 use window::AdaptiveReceiverPacketWindow;
+use window::memory::PAGE_SLOTS;
 ghost use Prim.Native.Nat.{_+_, _*_, _/_, _≤_, _<_};
 ghost use lib.ListN.{length};
 ghost use Rattle.window.specs.Memory.{memory, capacity};
@@ -11,6 +12,9 @@ ghost use Rattle.model.specs.Steps.{retireStretch};
 ghost use Rattle.soundness.specs.Retire.{firstPage, lastPage};
 ghost use Rattle.ranges.specs.Spans.{partial, spanMost, endPages};
 ghost use Rattle.ranges.specs.Contracts.{Performs};
+
+// The last position of a page.
+const LAST_SLOT: usize = PAGE_SLOTS - 1;
 
 // The first partial page of a stretch that begins at `start`.
 fn retire_head(
@@ -27,14 +31,14 @@ fn retire_head(
     requires { ⌜ (start < capacity (w .«window_size»)) × (at + partial start ≤ length (now returned)) ⌝ }
     ensures { λ r. ⌜ Performs (λ v. firstPage v start) (partial start) w (memory (now (sequences .entry)) (now (values .entry)) (now (pages .entry)) (now (blocks .entry))) at (now (returned .entry)) r (memory (now (sequences .exit)) (now (values .exit)) (now (pages .exit)) (now (blocks .exit))) (now (returned .exit)) ⌝ }
 {
-    if start % 64 == 0 {
+    if start % PAGE_SLOTS == 0 {
         return Retired {
             window: w,
             count: 0,
             sound: true,
         };
     }
-    let slots = words::span(start % 64, 64);
+    let slots = words::span(start % PAGE_SLOTS, PAGE_SLOTS);
     remove_slots(
         w,
         sequences,
@@ -43,7 +47,7 @@ fn retire_head(
         blocks,
         returned,
         at,
-        start / 64,
+        start / PAGE_SLOTS,
         slots,
     )
 }
@@ -63,14 +67,14 @@ fn retire_tail(
     requires { ⌜ (end ≤ capacity (w .«window_size»)) × (at + partial end ≤ length (now returned)) ⌝ }
     ensures { λ r. ⌜ Performs (λ v. lastPage v end) (partial end) w (memory (now (sequences .entry)) (now (values .entry)) (now (pages .entry)) (now (blocks .entry))) at (now (returned .entry)) r (memory (now (sequences .exit)) (now (values .exit)) (now (pages .exit)) (now (blocks .exit))) (now (returned .exit)) ⌝ }
 {
-    if end % 64 == 0 {
+    if end % PAGE_SLOTS == 0 {
         return Retired {
             window: w,
             count: 0,
             sound: true,
         };
     }
-    let slots = words::span(0, end % 64);
+    let slots = words::span(0, end % PAGE_SLOTS);
     remove_slots(
         w,
         sequences,
@@ -79,7 +83,7 @@ fn retire_tail(
         blocks,
         returned,
         at,
-        end / 64,
+        end / PAGE_SLOTS,
         slots,
     )
 }
@@ -140,7 +144,13 @@ fn retire_across(
         end,
     );
     let left = ends.window;
-    let window = retire_pages(left, pages, blocks, (start + 63) / 64, end / 64);
+    let window = retire_pages(
+        left,
+        pages,
+        blocks,
+        (start + LAST_SLOT) / PAGE_SLOTS,
+        end / PAGE_SLOTS,
+    );
     Retired {
         window,
         count: ends.count,
@@ -164,9 +174,9 @@ pub fn retire_span(
     requires { ⌜ (start < end) × (end ≤ capacity (w .«window_size»)) × (at + spanMost start end ≤ length (now returned)) ⌝ }
     ensures { λ r. ⌜ Performs (λ v. retireStretch v start end) (spanMost start end) w (memory (now (sequences .entry)) (now (values .entry)) (now (pages .entry)) (now (blocks .entry))) at (now (returned .entry)) r (memory (now (sequences .exit)) (now (values .exit)) (now (pages .exit)) (now (blocks .exit))) (now (returned .exit)) ⌝ }
 {
-    let page = start / 64;
-    if page == (end - 1) / 64 {
-        let slots = words::span(start % 64, (end - 1) % 64 + 1);
+    let page = start / PAGE_SLOTS;
+    if page == (end - 1) / PAGE_SLOTS {
+        let slots = words::span(start % PAGE_SLOTS, (end - 1) % PAGE_SLOTS + 1);
         return remove_slots(
             w,
             sequences,

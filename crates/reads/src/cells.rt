@@ -4,10 +4,11 @@ use pages::page_words;
 use searches::bits_within;
 use searches::next_live_page;
 use window::AdaptiveReceiverPacketWindow;
+use window::memory::PAGE_SLOTS;
 ghost use mathlib.Core.Path.{_≡_};
 ghost use Prim.Native.Nat.{_*_, _<_, _≤_};
 ghost use lib.ListN.{length};
-ghost use Rattle.window.specs.Memory.{capacity, pageCount, blockCount};
+ghost use Rattle.window.specs.Memory.{capacity, pageCount, blockCount, pageWords, blockWords};
 ghost use Rattle.reads.specs.Contracts.{FindsInPage, FindsCell};
 
 // The first cell in use of page `page` from its cell `from` on, if the page is reachable; 64 if there is none.
@@ -19,11 +20,11 @@ fn cell_in_page(
     from: usize,
 ) -> usize
     requires { ⌜ (page < pageCount (w .«window_size»)) × (from < 64) ⌝ }
-    requires { ⌜ (3 * pageCount (w .«window_size») ≤ length (now pages)) × (3 * blockCount (w .«window_size») ≤ length (now blocks)) ⌝ }
+    requires { ⌜ (pageWords * pageCount (w .«window_size») ≤ length (now pages)) × (blockWords * blockCount (w .«window_size») ≤ length (now blocks)) ⌝ }
     ensures { λ r. ⌜ FindsInPage w (now (pages .entry)) (now (blocks .entry)) page from r ⌝ }
 {
     if reachable(w, blocks, page) == 0 {
-        return 64;
+        return PAGE_SLOTS;
     }
     let words = page_words(pages, page);
     words::lowest(words.filled, from)
@@ -38,13 +39,13 @@ fn walk_cells(
     end: usize,
 ) -> usize
     requires { ⌜ (w .«window_size» ≤ 65536) × (start < end) × (end ≤ capacity (w .«window_size»)) ⌝ }
-    requires { ⌜ (3 * pageCount (w .«window_size») ≤ length (now pages)) × (3 * blockCount (w .«window_size») ≤ length (now blocks)) ⌝ }
+    requires { ⌜ (pageWords * pageCount (w .«window_size») ≤ length (now pages)) × (blockWords * blockCount (w .«window_size») ≤ length (now blocks)) ⌝ }
     ensures { λ r. ⌜ FindsCell w (now (pages .entry)) (now (blocks .entry)) start end r ⌝ }
 {
     let nonempty_summary = w.nonempty_summary;
     let retired_blocks = w.retired_blocks;
-    let stop = (end - 1) / 64 + 1;
-    let mut from = start / 64;
+    let stop = (end - 1) / PAGE_SLOTS + 1;
+    let mut from = start / PAGE_SLOTS;
     let cell = loop {
         let page = next_live_page(blocks, nonempty_summary, retired_blocks, from, stop);
         if stop <= page {
@@ -53,7 +54,7 @@ fn walk_cells(
         let words = page_words(pages, page);
         let filled = words.filled & bits_within(start, end, page);
         if filled != 0 {
-            break 64 * page + words::lowest(filled, 0);
+            break PAGE_SLOTS * page + words::lowest(filled, 0);
         }
         from = page + 1;
     };
@@ -70,15 +71,15 @@ pub fn next_cell(
     end: usize,
 ) -> usize
     requires { ⌜ (w .«window_size» ≤ 65536) × (start < end) × (end ≡ capacity (w .«window_size»)) ⌝ }
-    requires { ⌜ (3 * pageCount (w .«window_size») ≤ length (now pages)) × (3 * blockCount (w .«window_size») ≤ length (now blocks)) ⌝ }
+    requires { ⌜ (pageWords * pageCount (w .«window_size») ≤ length (now pages)) × (blockWords * blockCount (w .«window_size») ≤ length (now blocks)) ⌝ }
     ensures { λ r. ⌜ FindsCell w (now (pages .entry)) (now (blocks .entry)) start end r ⌝ }
 {
-    let page = start / 64;
-    let c = cell_in_page(w, pages, blocks, page, start % 64);
-    if c < 64 {
-        return 64 * page + c;
+    let page = start / PAGE_SLOTS;
+    let c = cell_in_page(w, pages, blocks, page, start % PAGE_SLOTS);
+    if c < PAGE_SLOTS {
+        return PAGE_SLOTS * page + c;
     }
-    let from = 64 * page + 64;
+    let from = PAGE_SLOTS * page + PAGE_SLOTS;
     if end <= from {
         return end;
     }

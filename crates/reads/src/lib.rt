@@ -19,6 +19,7 @@ use round::find_from;
 use window::AdaptiveReceiverPacketWindow;
 use window::answers::Answer;
 use window::answers::Step;
+use window::memory::PAGE_SLOTS;
 use window::memory::capacity;
 use window::memory::position;
 use window::refusals::Verdict;
@@ -40,7 +41,7 @@ pub fn value_of(
     ensures { λ r. ⌜ TellsBy (getOf sequence) w sequences values pages blocks r ⌝ }
 {
     let n = w.n as usize;
-    let page = position(w.window_size, sequence) / 64;
+    let page = position(w.window_size, sequence) / PAGE_SLOTS;
     if reachable(w, blocks, page) == 0 {
         return Answer::Absent;
     }

@@ -9,7 +9,7 @@ use window::refusals::Refusal;
 ghost use mathlib.Core.Path.{_≡_};
 ghost use Prim.Native.Nat.{_*_, _<_, _≤_};
 ghost use lib.ListN.{length};
-ghost use Rattle.window.specs.Memory.{capacity as capacityOf, pageCount, blockCount};
+ghost use Rattle.window.specs.Memory.{capacity as capacityOf, pageCount, blockCount, pageWords, blockWords};
 ghost use Rattle.window.specs.Lent.{ListsFit};
 ghost use Rattle.model.specs.Calls.{successor-after, first-from};
 ghost use Rattle.searches.specs.Contracts.{foundAnswer};
@@ -37,7 +37,7 @@ fn find_round(
     sequence: u32,
 ) -> Answer
     requires { ⌜ (w .«window_size» ≤ 65536) × (w .n < 64) ⌝ }
-    requires { ⌜ (capacityOf (w .«window_size») ≤ length (now sequences)) × (3 * pageCount (w .«window_size») ≤ length (now pages)) × (3 * blockCount (w .«window_size») ≤ length (now blocks)) ⌝ }
+    requires { ⌜ (capacityOf (w .«window_size») ≤ length (now sequences)) × (pageWords * pageCount (w .«window_size») ≤ length (now pages)) × (blockWords * blockCount (w .«window_size») ≤ length (now blocks)) ⌝ }
     ensures { λ r. ⌜ FindsRound w (now (sequences .entry)) (now (pages .entry)) (now (blocks .entry)) sequence (answerOf r) ⌝ }
 {
     let end = capacity(w.window_size);

@@ -19,7 +19,7 @@ ghost use mathlib.Core.Path.{_≡_};
 ghost use mathlib.Core.Option.{some};
 ghost use Prim.Native.Nat.{_*_, _<_, _≤_};
 ghost use lib.ListN.{length};
-ghost use Rattle.window.specs.Memory.{capacity as capacityOf, pageCount, blockCount};
+ghost use Rattle.window.specs.Memory.{capacity as capacityOf, pageCount, blockCount, pageWords, blockWords};
 ghost use Rattle.window.specs.Lent.{foundIn, ListsFit};
 ghost use Rattle.model.specs.Calls.{stranger as strangerOf, ask};
 ghost use Rattle.model.specs.Table.{pairOf, rangeCount, isStranger};
@@ -49,7 +49,7 @@ fn find_stranger(
     count: u32,
 ) -> Found
     requires { ⌜ (w .«window_size» ≤ 65536) × (w .n < 64) × (start < end) × (end ≤ capacityOf (w .«window_size»)) ⌝ }
-    requires { ⌜ (capacityOf (w .«window_size») ≤ length (now sequences)) × (3 * pageCount (w .«window_size») ≤ length (now pages)) × (3 * blockCount (w .«window_size») ≤ length (now blocks)) ⌝ }
+    requires { ⌜ (capacityOf (w .«window_size») ≤ length (now sequences)) × (pageWords * pageCount (w .«window_size») ≤ length (now pages)) × (blockWords * blockCount (w .«window_size») ≤ length (now blocks)) ⌝ }
     ensures { λ r. ⌜ FindsStranger w (now (sequences .entry)) (now (pages .entry)) (now (blocks .entry)) start end first count r ⌝ }
 {
     let mut from = start;
@@ -83,7 +83,7 @@ fn find_in_range(
     count: u32,
 ) -> Found
     requires { ⌜ (w .«window_size» ≤ 65536) × (w .n < 64) × (0 < count) × (count ≤ capacityOf (w .«window_size»)) ⌝ }
-    requires { ⌜ (capacityOf (w .«window_size») ≤ length (now sequences)) × (3 * pageCount (w .«window_size») ≤ length (now pages)) × (3 * blockCount (w .«window_size») ≤ length (now blocks)) ⌝ }
+    requires { ⌜ (capacityOf (w .«window_size») ≤ length (now sequences)) × (pageWords * pageCount (w .«window_size») ≤ length (now pages)) × (blockWords * blockCount (w .«window_size») ≤ length (now blocks)) ⌝ }
     ensures { λ r. ⌜ FindsInRange w (now (sequences .entry)) (now (pages .entry)) (now (blocks .entry)) first count r ⌝ }
 {
     let end = capacity(w.window_size);

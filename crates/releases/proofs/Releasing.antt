@@ -13,7 +13,7 @@ use Rattle.words.specs.Cases.{bool}
 use Rattle.words.specs.Word.{isSet, clearBit}
 use Rattle.words.specs.TestLaws.{all-set}
 use Rattle.window.specs.declared.AdaptiveReceiverPacketWindow.{AdaptiveReceiverPacketWindow}
-use Rattle.window.specs.Memory.{memory, blockCount}
+use Rattle.window.specs.Memory.{memory, blockCount, pageWords, rowIn}
 use Rattle.model.specs.Window.{Page, Window, window, decode}
 use Rattle.model.specs.Pages.{PageDrained, pageDrained, drainPage, holdsValue, unlessEmptied}
 use Rattle.model.specs.Steps.{releasePage, withPage, withHeader, setHeld, setMarks, allPositions}
@@ -76,7 +76,7 @@ settled-page w ss vs = bool (eqb (w .occupied) 0) (λ e. rw e) (λ e. rw e)
 -- ---- the code's steps
 
 module _ (h : AdaptiveReceiverPacketWindow) (n : ℕ) (ss vs pages blocks l : List ℕ) (g at limit : ℕ) (d : Drained) (r : AdaptiveReceiverPacketWindow)
-    (pages′ blocks′ l′ : List ℕ) (first : 64 * g + 64 ≤ length ss) (second : 64 * g + 64 ≤ length vs) (words : 3 * g + 3 ≤ length pages)
+    (pages′ blocks′ l′ : List ℕ) (first : 64 * g + 64 ≤ length ss) (second : 64 * g + 64 ≤ length vs) (words : rowIn pageWords g pages)
     (room : at + limit ≤ length l)
     (taken : Drains n (wordsAt pages g) (partOf g ss) (partOf g vs) (2 ^ 64 - 1) at limit l d l′)
     (stored : Stores (Released h (blockWordsAt blocks (g / 64)) g (holds (settledWords (d .words))) (d .count)) pages blocks g (settledWords (d .words)) r pages′ blocks′) where
@@ -167,7 +167,7 @@ module _ (h : AdaptiveReceiverPacketWindow) (n : ℕ) (ss vs pages blocks l : Li
 
 -- the same, of what the callees gave
 pub release-gives : (h : AdaptiveReceiverPacketWindow) (n : ℕ) (ss vs pages blocks l : List ℕ) (g at limit : ℕ) (d : Drained) (r : AdaptiveReceiverPacketWindow)
-    (pages′ blocks′ l′ : List ℕ) → 64 * g + 64 ≤ length ss → 64 * g + 64 ≤ length vs → 3 * g + 3 ≤ length pages → at + limit ≤ length l
+    (pages′ blocks′ l′ : List ℕ) → 64 * g + 64 ≤ length ss → 64 * g + 64 ≤ length vs → rowIn pageWords g pages → at + limit ≤ length l
     → (w left : PageWords) (ps qs : List ℕ) → w ≡ wordsAt pages g → ps ≡ partOf g ss → qs ≡ partOf g vs → left ≡ settledWords (d .words)
     → Drains n w ps qs (2 ^ 64 - 1) at limit l d l′
     → Stores (Released h (blockWordsAt blocks (g / 64)) g (holds left) (d .count)) pages blocks g left r pages′ blocks′

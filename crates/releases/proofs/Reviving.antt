@@ -11,14 +11,14 @@ use Rattle.words.specs.Word.{bitAt, isSet, clearBit}
 use Rattle.words.specs.BitLaws.{bit-lt}
 use Rattle.words.specs.ChangeLaws.{with-same}
 use Rattle.window.specs.declared.AdaptiveReceiverPacketWindow.{AdaptiveReceiverPacketWindow}
-use Rattle.window.specs.Memory.{memory, blockCount}
+use Rattle.window.specs.Memory.{memory, blockCount, blockWords}
 use Rattle.window.specs.WordListLaws.{words-length, words-past}
 use Rattle.model.specs.Window.{Block, Window, decode, isRetired}
 use Rattle.model.specs.Steps.{Returned, returnedBy, withBlock, splitBlock, releasePage, revive}
 use Rattle.pages.specs.DecodeLaws.{header-at}
 use Rattle.masks.specs.declared.BlockWords.{BlockWords}
 use Rattle.masks.specs.declared.Change.{Change}
-use Rattle.masks.specs.Blocks.{blockWordsAt, withBlockWords, blockOf, changed}
+use Rattle.masks.specs.Blocks.{blockWordsAt, blockRow, withBlockWords, blockOf, changed}
 use Rattle.masks.specs.Contracts.{Changes}
 use Rattle.masks.specs.BlockLaws.{block-at, decode-changed}
 use Rattle.releases.specs.declared.PageReleased.{PageReleased}
@@ -67,9 +67,9 @@ module _ (h : AdaptiveReceiverPacketWindow) (n : ℕ) (ss vs pages blocks l : Li
   put-within : Within pages blocks g pages blocks₁
   put-within = record {
     pages-long = refl;
-    blocks-long = ap (λ (y : List ℕ). length y) put ∙ words-length blocks b (c .block .nonempty) (c .block .retired) (c .block .live);
+    blocks-long = ap (λ (y : List ℕ). length y) put ∙ words-length blockWords blocks b (blockRow (c .block));
     pages-past = λ k m. refl;
-    blocks-past = λ k m. ap (drop (3 * k)) put ∙ words-past blocks b (c .block .nonempty) (c .block .retired) (c .block .live) k m;
+    blocks-past = λ k m. ap (drop (blockWords * k)) put ∙ words-past blockWords blocks b (blockRow (c .block)) refl k m;
   }
 
   module _ (i : Inside h n ss vs pages blocks l g) where

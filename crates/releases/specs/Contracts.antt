@@ -7,7 +7,7 @@ use Prim.Native.Nat.{ℕ, _*_, _/_, _≤_, _<_}
 use lib.Dec.{eqb}
 use lib.ListN.{length, drop}
 use Rattle.window.specs.declared.AdaptiveReceiverPacketWindow.{AdaptiveReceiverPacketWindow}
-use Rattle.window.specs.Memory.{memory, pageCount, blockCount}
+use Rattle.window.specs.Memory.{memory, pageCount, blockCount, pageWords, blockWords}
 use Rattle.model.specs.Window.{decode, isRetired}
 use Rattle.model.specs.Steps.{releasePage, revive}
 use Rattle.pages.specs.declared.PageWords.{PageWords}
@@ -24,14 +24,14 @@ settledWords w = cond (eqb (w .occupied) 0) (record { kind = 0; occupied = 0; fi
 pub record Within (pages blocks : List ℕ) (g : ℕ) (pages′ blocks′ : List ℕ) : Type 0 where
   pub pages-long : length pages′ ≡ length pages
   pub blocks-long : length blocks′ ≡ length blocks
-  pub pages-past : (n : ℕ) → g < n → drop (3 * n) pages′ ≡ drop (3 * n) pages
-  pub blocks-past : (n : ℕ) → g / 64 < n → drop (3 * n) blocks′ ≡ drop (3 * n) blocks
+  pub pages-past : (n : ℕ) → g < n → drop (pageWords * n) pages′ ≡ drop (pageWords * n) pages
+  pub blocks-past : (n : ℕ) → g / 64 < n → drop (blockWords * n) blocks′ ≡ drop (blockWords * n) blocks
 
 module _ (h : AdaptiveReceiverPacketWindow) (n : ℕ) (ss vs pages blocks l : List ℕ) (g : ℕ) where
   -- page g of a window of this header, inside its lists
   pub record Inside : Type 0 where
     pub below : g < pageCount (h .«window_size»)
-    pub blocks-long : 3 * blockCount (h .«window_size») ≤ length blocks
+    pub blocks-long : blockWords * blockCount (h .«window_size») ≤ length blocks
     pub placed : Placed n (page (wordsAt pages g) (partOf g ss) (partOf g vs))
 
   pub record ReleasesPage (at limit : ℕ) (r : PageReleased) (pages′ blocks′ l′ : List ℕ) : Type 0 where

@@ -8,9 +8,11 @@ use pages::page_cells;
 use pages::page_words;
 use updates::store::store_released;
 use window::AdaptiveReceiverPacketWindow;
+use window::memory::PAGE_SLOTS;
 ghost use mathlib.Core.Path.{_≡_};
 ghost use Prim.Native.Nat.{_+_, _*_, _/_, _≤_, _<_};
 ghost use lib.ListN.{length};
+ghost use Rattle.window.specs.Memory.{pageWords, blockWords, rowIn};
 ghost use Rattle.releases.specs.Contracts.{settledWords, ReleasesPage, Revives};
 
 // The header after values of a page were handed back, how many they were, and whether each occupied position met had a cell.
@@ -47,8 +49,8 @@ pub fn release_page(
     at: usize,
     limit: usize,
 ) -> PageReleased
-    requires { ⌜ (page < 1024) × (64 * page + 64 ≤ length (now sequences)) × (64 * page + 64 ≤ length (now values)) × (3 * page + 3 ≤ length (now pages)) ⌝ }
-    requires { ⌜ (3 * (page / 64) + 3 ≤ length (now blocks)) × (n < 64) × (limit ≤ 256) × (at + limit ≤ length (now returned)) ⌝ }
+    requires { ⌜ (page < 1024) × (64 * page + 64 ≤ length (now sequences)) × (64 * page + 64 ≤ length (now values)) × rowIn pageWords page (now pages) ⌝ }
+    requires { ⌜ rowIn blockWords (page / 64) (now blocks) × (n < 64) × (limit ≤ 256) × (at + limit ≤ length (now returned)) ⌝ }
     ensures { λ r. ⌜ ReleasesPage w n (now (sequences .entry)) (now (values .entry)) (now (pages .entry)) (now (blocks .entry)) (now (returned .entry)) page at limit r (now (pages .exit)) (now (blocks .exit)) (now (returned .exit)) ⌝ }
 {
     let words = page_words(pages, page);
@@ -83,8 +85,8 @@ pub fn revive(
     page: usize,
     n: usize,
 ) -> PageReleased
-    requires { ⌜ (page < 1024) × (64 * page + 64 ≤ length (now sequences)) × (64 * page + 64 ≤ length (now values)) × (3 * page + 3 ≤ length (now pages)) ⌝ }
-    requires { ⌜ (3 * (page / 64) + 3 ≤ length (now blocks)) × (n < 64) × (64 ≤ length (now returned)) ⌝ }
+    requires { ⌜ (page < 1024) × (64 * page + 64 ≤ length (now sequences)) × (64 * page + 64 ≤ length (now values)) × rowIn pageWords page (now pages) ⌝ }
+    requires { ⌜ rowIn blockWords (page / 64) (now blocks) × (n < 64) × (64 ≤ length (now returned)) ⌝ }
     ensures { λ r. ⌜ Revives w n (now (sequences .entry)) (now (values .entry)) (now (pages .entry)) (now (blocks .entry)) (now (returned .entry)) page r (now (pages .exit)) (now (blocks .exit)) (now (returned .exit)) ⌝ }
 {
     let block = page / 64;
@@ -109,6 +111,6 @@ pub fn revive(
         page,
         n,
         0,
-        64,
+        PAGE_SLOTS,
     )
 }

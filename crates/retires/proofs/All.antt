@@ -13,9 +13,9 @@ use borrow.Author.Tests.{ltb-true}
 use Rattle.words.specs.Cases.{bool}
 use Rattle.words.specs.Word.{span}
 use Rattle.window.specs.declared.AdaptiveReceiverPacketWindow.{AdaptiveReceiverPacketWindow}
-use Rattle.window.specs.Memory.{memory, blockCount}
+use Rattle.window.specs.Memory.{memory, blockCount, blockWords}
 use Rattle.model.specs.Window.{Block, Window, window, decode, noBlock, noPage}
-use Rattle.model.specs.Steps.{withHeader, block, setHeld, setLen, setRetiredBlocks, dropBlockMarks, retireAll}
+use Rattle.model.specs.Steps.{block, setLive, withHeader, setHeld, setLen, setRetiredBlocks, dropBlockMarks, retireAll}
 use Rattle.masks.specs.Blocks.{blockWordsAt, blockOf}
 use Rattle.masks.specs.Contracts.{ChangesHeader}
 use Rattle.masks.specs.BlockLaws.{decode-header}
@@ -30,54 +30,54 @@ pub without-none : (blocks : List ℕ) → blocks ≡ withoutLive 0 blocks
 unfolding withoutLive
 without-none blocks = refl
 
-without-suc : (n : ℕ) (blocks : List ℕ) → set (withoutLive n blocks) (3 * n + 2) 0 ≡ withoutLive (suc n) blocks
+without-suc : (n : ℕ) (blocks : List ℕ) → set (withoutLive n blocks) (blockWords * n + 2) 0 ≡ withoutLive (suc n) blocks
 unfolding withoutLive
 without-suc n blocks = refl
 
-pub without-more : (n : ℕ) (blocks l : List ℕ) → l ≡ withoutLive n blocks → set l (3 * n + 2) 0 ≡ withoutLive (n + 1) blocks
+pub without-more : (n : ℕ) (blocks l : List ℕ) → l ≡ withoutLive n blocks → set l (blockWords * n + 2) 0 ≡ withoutLive (n + 1) blocks
 without-more n blocks l e =
     let one : suc n ≡ n + 1 = omega arith in
-    ap (λ (x : List ℕ). set x (3 * n + 2) 0) e ∙ without-suc n blocks ∙ ap (λ (x : ℕ). withoutLive x blocks) one
+    ap (λ (x : List ℕ). set x (blockWords * n + 2) 0) e ∙ without-suc n blocks ∙ ap (λ (x : ℕ). withoutLive x blocks) one
 
 module _ (blocks : List ℕ) where
   pub without-length : (n : ℕ) → length (withoutLive n blocks) ≡ length blocks
   unfolding withoutLive
   without-length zero = refl
-  without-length (suc n) = length-set (withoutLive n blocks) (3 * n + 2) 0 ∙ without-length n
+  without-length (suc n) = length-set (withoutLive n blocks) (blockWords * n + 2) 0 ∙ without-length n
 
-  without-past : (n m : ℕ) → n ≤ m → drop (3 * m) (withoutLive n blocks) ≡ drop (3 * m) blocks
+  without-past : (n m : ℕ) → n ≤ m → drop (blockWords * m) (withoutLive n blocks) ≡ drop (blockWords * m) blocks
   unfolding withoutLive
   without-past zero m l = refl
-  without-past (suc n) m l = drop-set-lt (3 * m) (withoutLive n blocks) (3 * n + 2) 0 (omega arith) ∙ without-past n m (omega arith)
+  without-past (suc n) m l = drop-set-lt (blockWords * m) (withoutLive n blocks) (blockWords * n + 2) 0 (omega arith) ∙ without-past n m (omega arith)
 
   -- a word that is no live word of the first n blocks
-  without-other : (n j : ℕ) → ((i : ℕ) → i < n → j ≡ 3 * i + 2 → ⊥) → getD (withoutLive n blocks) j 0 ≡ getD blocks j 0
+  without-other : (n j : ℕ) → ((i : ℕ) → i < n → j ≡ blockWords * i + 2 → ⊥) → getD (withoutLive n blocks) j 0 ≡ getD blocks j 0
   unfolding withoutLive
   without-other zero j h = refl
-  without-other (suc n) j h = getD-set-other (withoutLive n blocks) (3 * n + 2) j 0 0 (h n (omega arith)) ∙ without-other n j (λ i l. h i (omega arith))
+  without-other (suc n) j h = getD-set-other (withoutLive n blocks) (blockWords * n + 2) j 0 0 (h n (omega arith)) ∙ without-other n j (λ i l. h i (omega arith))
 
-  without-live : (n b : ℕ) → b < n → 3 * n ≤ length blocks → getD (withoutLive n blocks) (3 * b + 2) 0 ≡ 0
+  without-live : (n b : ℕ) → b < n → blockWords * n ≤ length blocks → getD (withoutLive n blocks) (blockWords * b + 2) 0 ≡ 0
   unfolding withoutLive
   without-live zero b l long = absurd (omega arith)
   without-live (suc n) b l long =
       elim (ℕ-discrete b n) [
-        | yes e ↦ rw e (getD-set-same (withoutLive n blocks) (3 * n + 2) 0 0 (omega (arith, without-length n)))
-        | no e ↦ getD-set-other (withoutLive n blocks) (3 * n + 2) (3 * b + 2) 0 0 (λ z. e (omega arith)) ∙ without-live n b (omega arith) (omega arith)
+        | yes e ↦ rw e (getD-set-same (withoutLive n blocks) (blockWords * n + 2) 0 0 (omega (arith, without-length n)))
+        | no e ↦ getD-set-other (withoutLive n blocks) (blockWords * n + 2) (blockWords * b + 2) 0 0 (λ z. e (omega arith)) ∙ without-live n b (omega arith) (omega arith)
       ]
 
   -- the words of a block
-  without-block : (n b : ℕ) → b < n → 3 * n ≤ length blocks → blockOf (blockWordsAt (withoutLive n blocks) b) ≡ block (getD blocks (3 * b) 0) (getD blocks (3 * b + 1) 0) 0
+  without-block : (n b : ℕ) → b < n → blockWords * n ≤ length blocks → blockOf (blockWordsAt (withoutLive n blocks) b) ≡ setLive (blockOf (blockWordsAt blocks b)) 0
   unfolding blockWordsAt
   without-block n b l long = λ i. block
-      (without-other n (3 * b) (λ j k e. omega arith) i)
-      (without-other n (3 * b + 1) (λ j k e. omega arith) i)
+      (without-other n (blockWords * b + 0) (λ j k e. omega arith) i)
+      (without-other n (blockWords * b + 1) (λ j k e. omega arith) i)
       (without-live n b l long i)
 
 -- ---- the code's steps
 
 module _ (h : AdaptiveReceiverPacketWindow) (blocks blocks′ : List ℕ) (n marks : ℕ) (more r : AdaptiveReceiverPacketWindow)
     (count : n ≡ blockCount (h .«window_size»)) (cleared : blocks′ ≡ withoutLive n blocks)
-    (held : more ≡ setHeld h ((h .«retired_held» + h .len) % 2 ^ 32)) (all : marks ≡ span 0 n) (long : 3 * blockCount (h .«window_size») ≤ length blocks)
+    (held : more ≡ setHeld h ((h .«retired_held» + h .len) % 2 ^ 32)) (all : marks ≡ span 0 n) (long : blockWords * blockCount (h .«window_size») ≤ length blocks)
     (settled : ChangesHeader dropBlockMarks (setRetiredBlocks (setLen more 0) marks) r) where
   abbrev marked : AdaptiveReceiverPacketWindow
   marked = setRetiredBlocks (setLen more 0) marks
@@ -95,7 +95,7 @@ module _ (h : AdaptiveReceiverPacketWindow) (blocks blocks′ : List ℕ) (n mar
     v = decode h (memory ss vs pages blocks)
 
     abbrev noLive : ℕ → Block
-    noLive b = cond (ltb b (blockCount (v .header .«window_size»))) (block (v .blocks b .nonempty) (v .blocks b .retired) 0) (v .blocks b)
+    noLive b = cond (ltb b (blockCount (v .header .«window_size»))) (setLive (v .blocks b) 0) (v .blocks b)
 
     each : (b : ℕ) → decode h (memory ss vs pages blocks′) .blocks b ≡ noLive b
     unfolding decode blockWordsAt
@@ -123,7 +123,7 @@ module _ (h : AdaptiveReceiverPacketWindow) (blocks blocks′ : List ℕ) (n mar
     touches = record {
       limits = stays;
       long = ap length cleared-is ∙ without-length blocks (blockCount (h .«window_size»));
-      past = λ m l. ap (drop (3 * m)) cleared-is ∙ without-past blocks (blockCount (h .«window_size»)) m l;
+      past = λ m l. ap (drop (blockWords * m)) cleared-is ∙ without-past blocks (blockCount (h .«window_size»)) m l;
     };
     gives = retired;
   }

@@ -13,14 +13,14 @@ use Rattle.words.specs.BitLaws.{bit-none}
 use Rattle.words.specs.CountLaws.{count-le}
 use Rattle.words.specs.TestLaws.{and-set, not-set}
 use Rattle.window.specs.declared.AdaptiveReceiverPacketWindow.{AdaptiveReceiverPacketWindow}
-use Rattle.window.specs.Memory.{memory, blockCount}
+use Rattle.window.specs.Memory.{memory, blockCount, blockWords, rowIn}
 use Rattle.window.specs.WordListLaws.{words-length, words-past}
 use Rattle.model.specs.Window.{Block, Window, decode}
 use Rattle.model.specs.Steps.{withHeader, setHeld, setRetiredBlocks, retireLive, retireBlock}
 use Rattle.pages.specs.DecodeLaws.{header-at}
 use Rattle.masks.specs.declared.BlockWords.{BlockWords}
 use Rattle.masks.specs.declared.Change.{Change}
-use Rattle.masks.specs.Blocks.{blockWordsAt, withBlockWords, blockOf, changed}
+use Rattle.masks.specs.Blocks.{blockWordsAt, blockRow, withBlockWords, blockOf, changed}
 use Rattle.masks.specs.Contracts.{TakesLive}
 use Rattle.masks.specs.BlockLaws.{block-at, decode-changed}
 use Rattle.soundness.specs.Change.{Limits, limitsOf}
@@ -61,7 +61,7 @@ module _ (h : AdaptiveReceiverPacketWindow) (blocks₀ : List ℕ) (mask : ℕ) 
   -- the mask names blocks of the window
   pub record Inside : Type 0 where
     pub below : (i : ℕ) → i < 64 → isSet mask i ≡ true → i < blockCount (h .«window_size»)
-    pub long : 3 * blockCount (h .«window_size») ≤ length blocks₀
+    pub long : blockWords * blockCount (h .«window_size») ≤ length blocks₀
 
   -- what the loop's locals are: `left` of the mask's blocks are still to be retired
   pub record Marking (start left : ℕ) (window : AdaptiveReceiverPacketWindow) (blocks : List ℕ) : Type 0 where
@@ -92,7 +92,7 @@ module _ (h : AdaptiveReceiverPacketWindow) (blocks₀ : List ℕ) (mask : ℕ) 
       is-left : isSet left q ≡ true
       is-left = rw low (low-set left (t .fits) more)
 
-      pub block-named : BlocksNamed blocks₀ mask → (q < 16) × (3 * q + 3 ≤ length blocks)
+      pub block-named : BlocksNamed blocks₀ mask → (q < 16) × rowIn blockWords q blocks
       block-named n = let k = n q block-lt (t .sub q block-lt is-left) in (k .0, omega (arith, k .1, t .long))
 
       pub marking-less : (left′ : ℕ) → left′ ≡ clearBit left q → count left′ < count left
@@ -107,7 +107,7 @@ module _ (h : AdaptiveReceiverPacketWindow) (blocks₀ : List ℕ) (mask : ℕ) 
         size-is = t .touches 64 (λ i l e. l) .limits
 
         long-is : length blocks′ ≡ length blocks
-        long-is = ap length put ∙ words-length blocks q (r .block .nonempty) (r .block .retired) (r .block .live)
+        long-is = ap length put ∙ words-length blockWords blocks q (blockRow (r .block))
 
         module _ (inside : Inside) (ss vs pages : List ℕ) (c : Counted 64 (decode h (memory ss vs pages blocks₀))) where
           abbrev v : Window
@@ -158,8 +158,8 @@ module _ (h : AdaptiveReceiverPacketWindow) (blocks₀ : List ℕ) (mask : ℕ) 
             limits = made .limits ∙ w .limits;
             long = long-is ∙ w .long;
             past = λ n l.
-                ap (drop (3 * n)) put
-                ∙ words-past blocks q (r .block .nonempty) (r .block .retired) (r .block .live) n (omega (arith, b q block-lt (t .sub q block-lt is-left)))
+                ap (drop (blockWords * n)) put
+                ∙ words-past blockWords blocks q (blockRow (r .block)) refl n (omega (arith, b q block-lt (t .sub q block-lt is-left)))
                 ∙ w .past n l;
           };
           counted = next-counted;

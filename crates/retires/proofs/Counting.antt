@@ -6,7 +6,6 @@ use Prim.Native.Nat.{ℕ, _+_, _*_, _^_, _≤_, _<_}
 use native.Mathlib.Omega.{arith}
 use native.Mathlib.Decide.{ℕ-discrete}
 use lib.Dec.{eqb}
-use lib.ListN.{length}
 use borrow.Author.Tests.{eq-eqb, ne-eqb}
 use Rattle.words.specs.Cases.{bool}
 use Rattle.words.specs.Word.{bitAt, isSet, clearBit, count, lowest}
@@ -14,6 +13,7 @@ use Rattle.words.specs.BitLaws.{bit-none}
 use Rattle.words.specs.ChangeLaws.{with-same, with-other, with-lt}
 use Rattle.words.specs.CountLaws.{count-le, count-clear}
 use Rattle.words.specs.LowestLaws.{lowest-is, lowest-some}
+use Rattle.window.specs.Memory.{pageWords, rowIn}
 use Rattle.model.specs.Table.{sum}
 use Rattle.pages.specs.declared.PageWords.{PageWords}
 use Rattle.pages.specs.Page.{wordsAt}
@@ -94,7 +94,7 @@ module _ (pages : List ℕ) (b : ℕ) where
         pub bit-lt : q < 64
         bit-lt = omega (arith, low, low-lt left (t .fits) more)
 
-        pub page-in : 3 * (64 * b + q) + 3 ≤ length pages
+        pub page-in : rowIn pageWords (64 * b + q) pages
         page-in = rw low (t .named (lowest left 0) (low-lt left (t .fits) more) (low-set left (t .fits) more))
 
         pub counting-turn : (w : PageWords) (n left′ : ℕ) → w ≡ wordsAt pages (64 * b + q) → n ≡ count (w .occupied) → left′ ≡ clearBit left q → Counting mask left′ (values + n)

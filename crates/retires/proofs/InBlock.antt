@@ -13,17 +13,17 @@ use Rattle.words.specs.Word.{isSet, count, wordOf}
 use Rattle.words.specs.TestLaws.{word-eq}
 use Rattle.words.specs.WordLaws.{word-lt}
 use Rattle.window.specs.declared.AdaptiveReceiverPacketWindow.{AdaptiveReceiverPacketWindow}
-use Rattle.window.specs.Memory.{memory, pageCount}
+use Rattle.window.specs.Memory.{memory, pageCount, blockWords}
 use Rattle.window.specs.WordListLaws.{words-length, words-past}
 use Rattle.model.specs.Table.{sum}
-use Rattle.model.specs.Window.{Page, Block, Window, window, decode}
+use Rattle.model.specs.Window.{Page, Block, Window, window, decode, noPage}
 use Rattle.model.specs.Pages.{valuesIn}
-use Rattle.model.specs.Steps.{withHeader, withBlock, block, setHeld, setLen, setMarks, splitBlock, subLive, pagesIn, newMarks, retireLive, retireInBlock}
+use Rattle.model.specs.Steps.{setRetired, withHeader, withBlock, setHeld, setLen, setMarks, splitBlock, subLive, pagesIn, newMarks, retireLive, retireInBlock}
 use Rattle.pages.specs.Page.{wordsAt}
 use Rattle.pages.specs.DecodeLaws.{header-at, page-at}
 use Rattle.masks.specs.declared.BlockWords.{BlockWords}
 use Rattle.masks.specs.declared.Change.{Change}
-use Rattle.masks.specs.Blocks.{blockWordsAt, withBlockWords, blockOf, changed}
+use Rattle.masks.specs.Blocks.{blockWordsAt, blockRow, withBlockWords, blockOf, changed}
 use Rattle.masks.specs.Marks.{newlyMarked, withMarks}
 use Rattle.masks.specs.MarkLaws.{newly-marked-set, with-marks-set}
 use Rattle.masks.specs.Contracts.{Changes, TakesLive}
@@ -74,7 +74,7 @@ module _ (h : AdaptiveReceiverPacketWindow) (pages blocks : List ℕ) (b mask : 
     (marks : marked ≡ withMarks (c .block) newly) (counted : k ≡ valuesOf pages b newly) (taken : TakesLive (c .window) marked k fewer)
     (more : r ≡ setHeld (fewer .window) ((fewer .window .«retired_held» + k) % 2 ^ 32)) (put : blocks′ ≡ withBlockWords blocks b (fewer .block)) where
   abbrev any : Window
-  any = window h (λ g. record { kind = 0; occupied = 0; filled = 0; sequences = λ j. 0; values = λ j. 0 }) (λ d. blockOf x)
+  any = window h (λ g. noPage) (λ d. blockOf x)
 
   split-stays : limitsOf (c .window) ≡ limitsOf h
   split-stays = ap (λ (y : Window). limitsOf (y .header)) (split .gives any refl refl) ∙ split-limits any b
@@ -85,8 +85,8 @@ module _ (h : AdaptiveReceiverPacketWindow) (pages blocks : List ℕ) (b mask : 
   touched : Touches h blocks (b + 1) r blocks′
   touched = record {
     limits = stays;
-    long = ap length put ∙ words-length blocks b (fewer .block .nonempty) (fewer .block .retired) (fewer .block .live);
-    past = λ n l. ap (drop (3 * n)) put ∙ words-past blocks b (fewer .block .nonempty) (fewer .block .retired) (fewer .block .live) n (omega arith);
+    long = ap length put ∙ words-length blockWords blocks b (blockRow (fewer .block));
+    past = λ n l. ap (drop (blockWords * n)) put ∙ words-past blockWords blocks b (blockRow (fewer .block)) refl n (omega arith);
   }
 
   module _ (room : Room h blocks b) (from to : ℕ) (inside : to ≤ pageCount (h .«window_size»)) (named : (i : ℕ) → i < 64 → isSet mask i ≡ pagesIn from to b i)
@@ -124,11 +124,11 @@ module _ (h : AdaptiveReceiverPacketWindow) (pages blocks : List ℕ) (b mask : 
         (word-lt (λ (j : ℕ). isSet (c .block .retired) j || isSet newly j) 64)
         (λ i l. with-marks-set (c .block) newly i l ∙ (λ j. isSet (sym block-is j .retired) i || new-is i l j))
 
-    marked-is : blockOf marked ≡ block (u .blocks b .nonempty) word (u .blocks b .live)
+    marked-is : blockOf marked ≡ setRetired (u .blocks b) word
     unfolding withMarks
     marked-is =
-        (λ j. block (marks j .nonempty) (marks-word j) (marks j .live))
-        ∙ (λ j. block (sym block-is j .nonempty) word (sym block-is j .live))
+        (λ j. setRetired (blockOf (marks j)) (marks-word j))
+        ∙ (λ j. setRetired (sym block-is j) word)
 
     -- the values counted are those of the definition
     page-values : (i : ℕ) → i < 64 → valuesAt pages b newly i ≡ cond (newMarks u from to b i) (valuesIn (u .pages (64 * b + i))) 0
@@ -157,7 +157,7 @@ module _ (h : AdaptiveReceiverPacketWindow) (pages blocks : List ℕ) (b mask : 
     w = setMarks u b word
 
     w-block : w .blocks b ≡ blockOf marked
-    w-block = upd-same (u .blocks) b (block (u .blocks b .nonempty) word (u .blocks b .live)) ∙ sym marked-is
+    w-block = upd-same (u .blocks) b (setRetired (u .blocks b) word) ∙ sym marked-is
 
     retired-is : changed w b (record { window = r; block = fewer .block }) ≡ retireLive w b k
     retired-is =
@@ -167,7 +167,7 @@ module _ (h : AdaptiveReceiverPacketWindow) (pages blocks : List ℕ) (b mask : 
     same-window =
         sym (again v b (blockOf (c .block)) (blockOf (fewer .block)) (c .window) r)
         ∙ ap (λ (y : Window). withBlock (withHeader y r) b (blockOf (fewer .block))) split-is
-        ∙ sym (again u b (block (u .blocks b .nonempty) word (u .blocks b .live)) (blockOf (fewer .block)) (u .header) r)
+        ∙ sym (again u b (setRetired (u .blocks b) word) (blockOf (fewer .block)) (u .header) r)
 
     pub pages-retired : decode r (memory ss vs pages blocks′) ≡ retireInBlock v from to b
     unfolding retireInBlock

@@ -11,7 +11,7 @@ use borrow.Author.Tests.{eq-eqb, ne-eqb}
 use Rattle.words.specs.Cases.{bool}
 use Rattle.words.specs.Word.{isSet, span}
 use Rattle.window.specs.declared.AdaptiveReceiverPacketWindow.{AdaptiveReceiverPacketWindow}
-use Rattle.window.specs.Memory.{memory, pageCount}
+use Rattle.window.specs.Memory.{memory, pageCount, pageWords, blockWords}
 use Rattle.model.specs.Window.{Window, decode}
 use Rattle.model.specs.Steps.{retireInBlock, retirePages}
 use Rattle.pages.specs.DecodeLaws.{header-at}
@@ -50,7 +50,7 @@ run-kept h blocks to a r blocks′ t run =
 -- ---- pages of one block named by a span of bits
 
 -- the pages that a span names are in the list
-pub span-named : (pages : List ℕ) (b f t : ℕ) → f ≤ t → 3 * (64 * b + t) ≤ length pages → PagesNamed pages b (span f t)
+pub span-named : (pages : List ℕ) (b f t : ℕ) → f ≤ t → pageWords * (64 * b + t) ≤ length pages → PagesNamed pages b (span f t)
 span-named pages b f t le long i l e =
     elim (decLt i t) [ yes q ↦ omega arith | no q ↦ absurd (true≢false (sym e ∙ span-unset-above f t i le (omega arith))) ]
 
@@ -130,7 +130,7 @@ module _ (h : AdaptiveReceiverPacketWindow) (blocks : List ℕ) (from to : ℕ) 
     in-mask : (i : ℕ) → isSet mask i ≡ true → i < to / 64
     in-mask i e = in-span i less (ap (λ (y : ℕ). isSet y i) (sym named) ∙ e)
 
-    pub between-named : to ≤ 1024 → 3 * (to / 64) ≤ length blocks → BlocksNamed blocks mask
+    pub between-named : to ≤ 1024 → blockWords * (to / 64) ≤ length blocks → BlocksNamed blocks mask
     between-named few long i l e = (omega (arith, in-mask i e), omega (arith, in-mask i e))
 
     pub between-some : to ≤ 1024 → (r : AdaptiveReceiverPacketWindow) (blocks′ : List ℕ) → RetiresBlocks h blocks mask r blocks′ → RetiresBetween h blocks from to r blocks′

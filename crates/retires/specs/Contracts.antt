@@ -8,7 +8,7 @@ use lib.Dec.{eqb}
 use lib.ListN.{length, drop}
 use Rattle.words.specs.Word.{isSet}
 use Rattle.window.specs.declared.AdaptiveReceiverPacketWindow.{AdaptiveReceiverPacketWindow}
-use Rattle.window.specs.Memory.{memory, pageCount, blockCount}
+use Rattle.window.specs.Memory.{memory, pageCount, blockCount, pageWords, blockWords, rowIn}
 use Rattle.model.specs.Window.{Window, decode}
 use Rattle.model.specs.Steps.{pagesIn, retireInBlock, retireBlock, retirePages, retireAll}
 use Rattle.masks.specs.declared.BlockWords.{BlockWords}
@@ -19,19 +19,19 @@ use Rattle.retires.specs.Retire.{retireEach}
 
 -- the words of every page that a mask names in block b are in the list
 abbrev pub PagesNamed : List ℕ → ℕ → ℕ → Type 0
-PagesNamed pages b mask = (i : ℕ) → i < 64 → isSet mask i ≡ true → 3 * (64 * b + i) + 3 ≤ length pages
+PagesNamed pages b mask = (i : ℕ) → i < 64 → isSet mask i ≡ true → rowIn pageWords (64 * b + i) pages
 
 -- block b of a window of this header, inside its list; the count of retired values has room for the values of a block
 pub record Room (h : AdaptiveReceiverPacketWindow) (blocks : List ℕ) (b : ℕ) : Type 0 where
   pub below : b < blockCount (h .«window_size»)
-  pub blocks-long : 3 * blockCount (h .«window_size») ≤ length blocks
+  pub blocks-long : blockWords * blockCount (h .«window_size») ≤ length blocks
   pub held : h .«retired_held» + 4096 < 2 ^ 32
 
 -- the words of blocks below `to` may have changed, and the header but for its limits
 pub record Touches (h : AdaptiveReceiverPacketWindow) (blocks : List ℕ) (to : ℕ) (r : AdaptiveReceiverPacketWindow) (blocks′ : List ℕ) : Type 0 where
   pub limits : limitsOf r ≡ limitsOf h
   pub long : length blocks′ ≡ length blocks
-  pub past : (n : ℕ) → to ≤ n → drop (3 * n) blocks′ ≡ drop (3 * n) blocks
+  pub past : (n : ℕ) → to ≤ n → drop (blockWords * n) blocks′ ≡ drop (blockWords * n) blocks
 
 pub record RetiresInBlock (h : AdaptiveReceiverPacketWindow) (pages blocks : List ℕ) (b mask : ℕ) (r : AdaptiveReceiverPacketWindow) (blocks′ : List ℕ) : Type 0 where
   pub touches : Touches h blocks (b + 1) r blocks′
@@ -46,7 +46,7 @@ pub record RetiresBlock (h : AdaptiveReceiverPacketWindow) (x : BlockWords) (b :
 
 -- the words of every block that a mask names are in the list
 abbrev pub BlocksNamed : List ℕ → ℕ → Type 0
-BlocksNamed blocks mask = (i : ℕ) → i < 64 → isSet mask i ≡ true → (i < 16) × (3 * i + 3 ≤ length blocks)
+BlocksNamed blocks mask = (i : ℕ) → i < 64 → isSet mask i ≡ true → (i < 16) × rowIn blockWords i blocks
 
 -- a block has at most 4096 live values, and none if it has its mark; the count of retired values has room for m blocks
 pub record Counted (m : ℕ) (w : Window) : Type 0 where
@@ -56,7 +56,7 @@ pub record Counted (m : ℕ) (w : Window) : Type 0 where
 
 pub record RetiresBlocks (h : AdaptiveReceiverPacketWindow) (blocks : List ℕ) (mask : ℕ) (r : AdaptiveReceiverPacketWindow) (blocks′ : List ℕ) : Type 0 where
   pub touches : (to : ℕ) → ((i : ℕ) → i < 64 → isSet mask i ≡ true → i < to) → Touches h blocks to r blocks′
-  pub gives : ((i : ℕ) → i < 64 → isSet mask i ≡ true → i < blockCount (h .«window_size»)) → 3 * blockCount (h .«window_size») ≤ length blocks
+  pub gives : ((i : ℕ) → i < 64 → isSet mask i ≡ true → i < blockCount (h .«window_size»)) → blockWords * blockCount (h .«window_size») ≤ length blocks
       → (ss vs pages : List ℕ) → Counted 64 (decode h (memory ss vs pages blocks))
       → decode r (memory ss vs pages blocks′) ≡ retireEach 64 0 (isSet mask) (decode h (memory ss vs pages blocks))
 
@@ -72,7 +72,7 @@ pub record RetiresAll (h : AdaptiveReceiverPacketWindow) (blocks : List ℕ) (r 
 -- pages of a window of this header, inside its lists
 pub record Run (h : AdaptiveReceiverPacketWindow) (blocks : List ℕ) (to : ℕ) : Type 0 where
   pub inside : to ≤ pageCount (h .«window_size»)
-  pub long : 3 * blockCount (h .«window_size») ≤ length blocks
+  pub long : blockWords * blockCount (h .«window_size») ≤ length blocks
 
 module _ (h : AdaptiveReceiverPacketWindow) (pages blocks : List ℕ) where
   abbrev windowOf : List ℕ → List ℕ → Window

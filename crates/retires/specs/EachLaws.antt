@@ -11,7 +11,7 @@ use Rattle.words.specs.Cases.{bool}
 use Rattle.words.specs.Word.{bitAt, isSet, withBit, setBit}
 use Rattle.words.specs.ChangeLaws.{with-own, with-other}
 use Rattle.model.specs.Window.{Window, upd}
-use Rattle.model.specs.Steps.{headerWith, block, retireBlock}
+use Rattle.model.specs.Steps.{headerWith, setLive, retireBlock}
 use Rattle.retires.specs.Retire.{retireEach}
 use Rattle.retires.specs.Contracts.{Counted}
 
@@ -50,9 +50,9 @@ module _ (w : Window) (b : ℕ) where
         blocks = λ d. same (w .blocks b .live - k) live d i;
       }
     where
-      same : (x : ℕ) → x ≡ w .blocks b .live → (d : ℕ) → upd (w .blocks) b (block (w .blocks b .nonempty) (w .blocks b .retired) x) d ≡ w .blocks d
+      same : (x : ℕ) → x ≡ w .blocks b .live → (d : ℕ) → upd (w .blocks) b (setLive (w .blocks b) x) d ≡ w .blocks d
       same x e d = elim (ℕ-discrete d b) [
-        | yes q ↦ rw (q, eq-eqb b b refl) (λ i. block (w .blocks b .nonempty) (w .blocks b .retired) (e i))
+        | yes q ↦ rw (q, eq-eqb b b refl) (λ i. setLive (w .blocks b) (e i))
         | no q ↦ rw (ne-eqb d b q)
       ]
 

@@ -15,7 +15,7 @@ use Rattle.words.specs.CountLaws.{count-le}
 use Rattle.model.specs.Table.{sum}
 use Rattle.model.specs.Window.{Page, Block, Window, window, upd}
 use Rattle.model.specs.Pages.{valuesIn}
-use Rattle.model.specs.Steps.{headerWith, block, setMarks, splitBlock, pagesIn, newMarks, retireLive, retireInBlock, retireBlock}
+use Rattle.model.specs.Steps.{headerWith, setRetired, setLive, setMarks, splitBlock, pagesIn, newMarks, retireLive, retireInBlock, retireBlock}
 use Rattle.soundness.specs.SumLaws.{sum-le}
 use Rattle.retires.specs.Retire.{retireEach}
 use Rattle.retires.specs.Contracts.{Counted}
@@ -48,7 +48,7 @@ module _ (pages : ℕ → Page) (x : Block) (marked : Bool) (from to b : ℕ) wh
   newValues = sum 64 (λ (i : ℕ). cond (newAt i) (valuesIn (pages (64 * b + i))) 0)
 
   unfoldable pub newBlock : Block
-  newBlock = block (x .nonempty) (wordOf (λ (i : ℕ). isSet splitMarks i || newAt i)) (x .live - newValues)
+  newBlock = setLive (setRetired x (wordOf (λ (i : ℕ). isSet splitMarks i || newAt i))) (x .live - newValues)
 
   pub values-few : newValues ≤ 4096
   unfolding newValues
@@ -80,20 +80,20 @@ marks-retired : (u : Window) (b word k : ℕ) →
     let h = u .header in
     retireLive (setMarks u b word) b k
     ≡ window (headerWith h (h .len - k) (h .«retired_held» + k) (h .«release_cursor») (h .«nonempty_summary») (h .«retired_blocks») (h .promotions) (h .demotions))
-    (u .pages) (upd (u .blocks) b (block (u .blocks b .nonempty) word (u .blocks b .live - k)))
+    (u .pages) (upd (u .blocks) b (setLive (setRetired (u .blocks b) word) (u .blocks b .live - k)))
 marks-retired u b word k =
     let h = u .header in
-    let x = block (u .blocks b .nonempty) word (u .blocks b .live) in
+    let x = setRetired (u .blocks b) word in
     let g = headerWith h (h .len - k) (h .«retired_held» + k) (h .«release_cursor») (h .«nonempty_summary») (h .«retired_blocks») (h .promotions) (h .demotions) in
-    ap (λ (y : Block). window g (u .pages) (upd (upd (u .blocks) b x) b (block (y .nonempty) (y .retired) (y .live - k)))) (upd-same (u .blocks) b x)
-    ∙ (λ i. window g (u .pages) (λ d. upd-again (u .blocks) b x (block (x .nonempty) (x .retired) (x .live - k)) d i))
+    ap (λ (y : Block). window g (u .pages) (upd (upd (u .blocks) b x) b (setLive y (y .live - k)))) (upd-same (u .blocks) b x)
+    ∙ (λ i. window g (u .pages) (λ d. upd-again (u .blocks) b x (setLive x (x .live - k)) d i))
 
 module _ (w : Window) (b : ℕ) where
   abbrev rb : ℕ
   rb = w .header .«retired_blocks»
 
   abbrev x : Block
-  x = block (w .blocks b .nonempty) (cond (isSet rb b) (w .blocks b .nonempty) (w .blocks b .retired)) (w .blocks b .live)
+  x = setRetired (w .blocks b) (cond (isSet rb b) (w .blocks b .nonempty) (w .blocks b .retired))
 
   -- the block split, marked or not
   abbrev splitHere : Window
@@ -143,7 +143,7 @@ module _ (w : Window) (from to b : ℕ) where
   made y =
       let h = w .header in
       window (headerWith h (h .len - many y) (h .«retired_held» + many y) (h .«release_cursor») (h .«nonempty_summary») (clearBit (h .«retired_blocks») b) (h .promotions) (h .demotions))
-      (w .pages) (upd (upd (w .blocks) b (x w b)) b (block (y .nonempty) (wordOf (λ (i : ℕ). isSet (y .retired) i || new y i)) (y .live - many y)))
+      (w .pages) (upd (upd (w .blocks) b (x w b)) b (setLive (setRetired y (wordOf (λ (i : ℕ). isSet (y .retired) i || new y i))) (y .live - many y)))
 
   pub in-block-is : retireInBlock w from to b ≡ inBlock
   unfolding retireInBlock newValues newBlock
@@ -191,7 +191,7 @@ module _ (w : Window) (from to a b : ℕ) (apart : a ≡ b → ⊥) where
   both y live =
       let h = w .header in
       window (headerWith h (h .len - live - k) (h .«retired_held» + live + k) (h .«release_cursor») (h .«nonempty_summary») (clearBit (setBit marks a) b) (h .promotions) (h .demotions))
-      (w .pages) (upd (upd (w .blocks) a (block (w .blocks a .nonempty) (w .blocks a .retired) (w .blocks a .live - live))) b y)
+      (w .pages) (upd (upd (w .blocks) a (setLive (w .blocks a) (w .blocks a .live - live))) b y)
 
   first-a : retireInBlock (retireBlock w a) from to b ≡ both (blockHere w from to b) l
   unfolding retireBlock
@@ -211,10 +211,10 @@ module _ (w : Window) (from to a b : ℕ) (apart : a ≡ b → ⊥) where
       let own : y a ≡ w .blocks a = rw (ne-eqb a b apart) in
       let len : h .len - k - l ≡ h .len - l - k = omega arith in
       let held : h .«retired_held» + k + l ≡ h .«retired_held» + l + k = omega arith in
-      ap (λ (z : Block). window (headerWith h (h .len - k - z .live) (h .«retired_held» + k + z .live) (h .«release_cursor») (h .«nonempty_summary») (setBit (clearBit marks b) a) (h .promotions) (h .demotions)) (w .pages) (upd y a (block (z .nonempty) (z .retired) (z .live - z .live)))) own
+      ap (λ (z : Block). window (headerWith h (h .len - k - z .live) (h .«retired_held» + k + z .live) (h .«release_cursor») (h .«nonempty_summary») (setBit (clearBit marks b) a) (h .promotions) (h .demotions)) (w .pages) (upd y a (setLive z (z .live - z .live)))) own
       ∙ (λ i.
       window (headerWith h (len i) (held i) (h .«release_cursor») (h .«nonempty_summary») (with-comm marks b 0 a 1 (omega arith) (omega arith) (λ e. apart (sym e)) i) (h .promotions) (h .demotions))
-      (w .pages) (λ d. upd-comm (w .blocks) b a (blockHere w from to b) (block (w .blocks a .nonempty) (w .blocks a .retired) (l - l)) (λ e. apart (sym e)) d i))
+      (w .pages) (λ d. upd-comm (w .blocks) b a (blockHere w from to b) (setLive (w .blocks a) (l - l)) (λ e. apart (sym e)) d i))
 
   -- block a retired with one bit, before or after pages of block b
   pub block-comm : retireInBlock (retireBlock w a) from to b ≡ retireBlock (retireInBlock w from to b) a

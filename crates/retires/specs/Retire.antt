@@ -4,6 +4,7 @@ use mathlib.Core.List.{List}
 use Prim.Native.Nat.{ℕ, zero, suc, _+_, _*_}
 use lib.ListN.{set}
 use Rattle.words.specs.Word.{isSet, count}
+use Rattle.window.specs.Memory.{blockWords}
 use Rattle.model.specs.Table.{sum}
 use Rattle.model.specs.Window.{Window}
 use Rattle.model.specs.Steps.{retireBlock}
@@ -25,4 +26,4 @@ retireEach (suc n) b P w = retireEach n (suc b) P (cond (P b) (retireBlock w b) 
 -- the list with no live value in its first n blocks
 unfoldable pub withoutLive : ℕ → List ℕ → List ℕ
 withoutLive zero blocks = blocks
-withoutLive (suc n) blocks = set (withoutLive n blocks) (3 * n + 2) 0
+withoutLive (suc n) blocks = set (withoutLive n blocks) (blockWords * n + 2) 0

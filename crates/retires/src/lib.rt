@@ -13,11 +13,12 @@ use masks::put_block_words;
 use masks::sub_live;
 use pages::page_words;
 use window::AdaptiveReceiverPacketWindow;
+use window::memory::BLOCK_WORDS;
 use window::memory::block_count;
 ghost use mathlib.Core.Path.{_≡_};
 ghost use Prim.Native.Nat.{ℕ, _+_, _*_, _%_, _^_, _≤_, _<_};
 ghost use lib.ListN.{length};
-ghost use Rattle.window.specs.Memory.{blockCount};
+ghost use Rattle.window.specs.Memory.{blockCount, blockWords, rowIn};
 ghost use Rattle.model.specs.Steps.{setHeld};
 ghost use Rattle.retires.specs.Retire.{valuesOf, withoutLive};
 ghost use Rattle.retires.specs.Contracts.{PagesNamed, BlocksNamed, RetiresInBlock, RetiresBlock, RetiresBlocks, RetiresAll};
@@ -56,7 +57,7 @@ pub fn retire_pages_in_block(
     block: usize,
     mask: u64,
 ) -> AdaptiveReceiverPacketWindow
-    requires { ⌜ (block < 16) × (3 * block + 3 ≤ length (now blocks)) × PagesNamed (now pages) block mask ⌝ }
+    requires { ⌜ (block < 16) × rowIn blockWords block (now blocks) × PagesNamed (now pages) block mask ⌝ }
     ensures { λ r. ⌜ RetiresInBlock w (now (pages .entry)) (now (blocks .entry)) block mask r (now (blocks .exit)) ⌝ }
 {
     let change = split_retired_block(w, block_words(blocks, block), block);
@@ -117,12 +118,12 @@ pub fn retire_blocks(
 
 // No live value in the first `count` blocks.
 fn clear_live(blocks: &mut [u64], count: usize)
-    requires { ⌜ (count ≤ 16) × (3 * count ≤ length (now blocks)) ⌝ }
+    requires { ⌜ (count ≤ 16) × (blockWords * count ≤ length (now blocks)) ⌝ }
     ensures { λ _. ⌜ now (blocks .exit) ≡ withoutLive count (now (blocks .entry)) ⌝ }
 {
     let mut block: usize = 0;
     while block < count {
-        blocks[3 * block + 2] = 0;
+        blocks[BLOCK_WORDS * block + 2] = 0;
         block += 1;
     }
 }
@@ -132,7 +133,7 @@ pub fn retire_all(
     w: AdaptiveReceiverPacketWindow,
     blocks: &mut [u64],
 ) -> AdaptiveReceiverPacketWindow
-    requires { ⌜ (w .«window_size» ≤ 65536) × (3 * blockCount (w .«window_size») ≤ length (now blocks)) ⌝ }
+    requires { ⌜ (w .«window_size» ≤ 65536) × (blockWords * blockCount (w .«window_size») ≤ length (now blocks)) ⌝ }
     ensures { λ r. ⌜ RetiresAll w (now (blocks .entry)) r (now (blocks .exit)) ⌝ }
 {
     let count = block_count(w.window_size);

@@ -4,6 +4,7 @@ use crate::retire_pages_in_block;
 use window::AdaptiveReceiverPacketWindow;
 ghost use Prim.Native.Nat.{_+_, _*_, _/_, _≤_, _<_};
 ghost use lib.ListN.{length};
+ghost use Rattle.window.specs.Memory.{pageWords, blockWords, rowIn};
 ghost use Rattle.retires.specs.Contracts.{RetiresFirst, RetiresLast, RetiresBetween, RetiresPages};
 
 // The pages from `from` up to the end of its block, unless they are the whole block.
@@ -13,7 +14,7 @@ fn retire_first(
     blocks: &mut [u64],
     from: usize,
 ) -> AdaptiveReceiverPacketWindow
-    requires { ⌜ (from < 1024) × (3 * (64 * (from / 64) + 64) ≤ length (now pages)) × (3 * (from / 64) + 3 ≤ length (now blocks)) ⌝ }
+    requires { ⌜ (from < 1024) × (pageWords * (64 * (from / 64) + 64) ≤ length (now pages)) × rowIn blockWords (from / 64) (now blocks) ⌝ }
     ensures { λ r. ⌜ RetiresFirst w (now (pages .entry)) (now (blocks .entry)) from r (now (blocks .exit)) ⌝ }
 {
     if from % 64 == 0 {
@@ -29,7 +30,7 @@ fn retire_last(
     blocks: &mut [u64],
     to: usize,
 ) -> AdaptiveReceiverPacketWindow
-    requires { ⌜ (to ≤ 1024) × (3 * to ≤ length (now pages)) × (3 * ((to + 63) / 64) ≤ length (now blocks)) ⌝ }
+    requires { ⌜ (to ≤ 1024) × (pageWords * to ≤ length (now pages)) × (blockWords * ((to + 63) / 64) ≤ length (now blocks)) ⌝ }
     ensures { λ r. ⌜ RetiresLast w (now (pages .entry)) (now (blocks .entry)) to r (now (blocks .exit)) ⌝ }
 {
     if to % 64 == 0 {
@@ -45,7 +46,7 @@ fn retire_between(
     from: usize,
     to: usize,
 ) -> AdaptiveReceiverPacketWindow
-    requires { ⌜ (from ≤ 1024) × (to ≤ 1024) × (3 * (to / 64) ≤ length (now blocks)) ⌝ }
+    requires { ⌜ (from ≤ 1024) × (to ≤ 1024) × (blockWords * (to / 64) ≤ length (now blocks)) ⌝ }
     ensures { λ r. ⌜ RetiresBetween w (now (blocks .entry)) from to r (now (blocks .exit)) ⌝ }
 {
     let first = (from + 63) / 64;
@@ -64,7 +65,7 @@ fn retire_several(
     from: usize,
     to: usize,
 ) -> AdaptiveReceiverPacketWindow
-    requires { ⌜ (64 * (from / 64) + 64 < to) × (to ≤ 1024) × (3 * to ≤ length (now pages)) × (3 * ((to + 63) / 64) ≤ length (now blocks)) ⌝ }
+    requires { ⌜ (64 * (from / 64) + 64 < to) × (to ≤ 1024) × (pageWords * to ≤ length (now pages)) × (blockWords * ((to + 63) / 64) ≤ length (now blocks)) ⌝ }
     ensures { λ r. ⌜ RetiresPages w (now (pages .entry)) (now (blocks .entry)) from to r (now (blocks .exit)) ⌝ }
 {
     let begun = retire_first(w, pages, blocks, from);
@@ -80,7 +81,7 @@ pub fn retire_pages(
     from: usize,
     to: usize,
 ) -> AdaptiveReceiverPacketWindow
-    requires { ⌜ (to ≤ 1024) × (3 * to ≤ length (now pages)) × (3 * ((to + 63) / 64) ≤ length (now blocks)) ⌝ }
+    requires { ⌜ (to ≤ 1024) × (pageWords * to ≤ length (now pages)) × (blockWords * ((to + 63) / 64) ≤ length (now blocks)) ⌝ }
     ensures { λ r. ⌜ RetiresPages w (now (pages .entry)) (now (blocks .entry)) from to r (now (blocks .exit)) ⌝ }
 {
     if to <= from {

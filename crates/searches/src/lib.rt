@@ -7,6 +7,7 @@ ghost use mathlib.Core.Path.{_≡_};
 ghost use Prim.Native.Nat.{_+_, _*_, _/_, _-_, _≤_, _<_};
 ghost use lib.ListN.{length};
 ghost use Rattle.words.specs.First.{firstFrom};
+ghost use Rattle.window.specs.Memory.{blockWords, rowIn};
 ghost use Rattle.searches.specs.Search.{bitsWithin, selectedPages, isSelected};
 ghost use Rattle.searches.specs.declared.Select.the-variants.{Nonempty as nonempty, Live as live, Retired as retired};
 
@@ -35,7 +36,7 @@ pub fn bits_within(start: usize, end: usize, word: usize) -> u64
 
 // The pages of a block that hold a value and are selected.
 fn selected_pages(blocks: &[u64], retired_blocks: u64, block: usize, select: Select) -> u64
-    requires { ⌜ (block < 16) × (3 * block + 3 ≤ length (now blocks)) ⌝ }
+    requires { ⌜ (block < 16) × rowIn blockWords block (now blocks) ⌝ }
     ensures { λ r. ⌜ r ≡ selectedPages (now (blocks .entry)) «retired_blocks» block select ⌝ }
 {
     let b = block_words(blocks, block);
@@ -57,7 +58,7 @@ fn next_page_where(
     end: usize,
     select: Select,
 ) -> usize
-    requires { ⌜ (start ≤ end) × (end ≤ 1024) × (3 * ((end + 63) / 64) ≤ length (now blocks)) ⌝ }
+    requires { ⌜ (start ≤ end) × (end ≤ 1024) × (blockWords * ((end + 63) / 64) ≤ length (now blocks)) ⌝ }
     ensures { λ r. ⌜ r ≡ firstFrom (isSelected (now (blocks .entry)) «nonempty_summary» «retired_blocks» select) (end - start) start ⌝ }
 {
     if end <= start {
@@ -86,7 +87,7 @@ pub fn next_nonempty_page(
     start: usize,
     end: usize,
 ) -> usize
-    requires { ⌜ (start ≤ end) × (end ≤ 1024) × (3 * ((end + 63) / 64) ≤ length (now blocks)) ⌝ }
+    requires { ⌜ (start ≤ end) × (end ≤ 1024) × (blockWords * ((end + 63) / 64) ≤ length (now blocks)) ⌝ }
     ensures { λ r. ⌜ r ≡ firstFrom (isSelected (now (blocks .entry)) «nonempty_summary» «retired_blocks» nonempty) (end - start) start ⌝ }
 {
     next_page_where(
@@ -107,7 +108,7 @@ pub fn next_live_page(
     start: usize,
     end: usize,
 ) -> usize
-    requires { ⌜ (start ≤ end) × (end ≤ 1024) × (3 * ((end + 63) / 64) ≤ length (now blocks)) ⌝ }
+    requires { ⌜ (start ≤ end) × (end ≤ 1024) × (blockWords * ((end + 63) / 64) ≤ length (now blocks)) ⌝ }
     ensures { λ r. ⌜ r ≡ firstFrom (isSelected (now (blocks .entry)) «nonempty_summary» «retired_blocks» live) (end - start) start ⌝ }
 {
     next_page_where(
@@ -128,7 +129,7 @@ pub fn next_retired_page(
     start: usize,
     end: usize,
 ) -> usize
-    requires { ⌜ (start ≤ end) × (end ≤ 1024) × (3 * ((end + 63) / 64) ≤ length (now blocks)) ⌝ }
+    requires { ⌜ (start ≤ end) × (end ≤ 1024) × (blockWords * ((end + 63) / 64) ≤ length (now blocks)) ⌝ }
     ensures { λ r. ⌜ r ≡ firstFrom (isSelected (now (blocks .entry)) «nonempty_summary» «retired_blocks» retired) (end - start) start ⌝ }
 {
     next_page_where(

@@ -5,9 +5,10 @@ use pages::find::slot_at;
 use pages::page_cells;
 use pages::page_words;
 use window::AdaptiveReceiverPacketWindow;
+use window::memory::PAGE_SLOTS;
 ghost use Prim.Native.Nat.{_*_, _<_, _≤_};
 ghost use lib.ListN.{length};
-ghost use Rattle.window.specs.Memory.{capacity, pageCount, blockCount};
+ghost use Rattle.window.specs.Memory.{capacity, pageCount, blockCount, pageWords, blockWords};
 ghost use Rattle.searches.specs.Contracts.{FindsLive};
 
 // What the walk finds. Unsound: a page that the masks name holds no value, or a position that it names has no cell.
@@ -27,14 +28,14 @@ pub fn find_live(
     end: usize,
 ) -> Found
     requires { ⌜ (w .«window_size» ≤ 65536) × (w .n < 64) × (start < end) × (end ≤ capacity (w .«window_size»)) ⌝ }
-    requires { ⌜ (capacity (w .«window_size») ≤ length (now sequences)) × (3 * pageCount (w .«window_size») ≤ length (now pages)) × (3 * blockCount (w .«window_size») ≤ length (now blocks)) ⌝ }
+    requires { ⌜ (capacity (w .«window_size») ≤ length (now sequences)) × (pageWords * pageCount (w .«window_size») ≤ length (now pages)) × (blockWords * blockCount (w .«window_size») ≤ length (now blocks)) ⌝ }
     ensures { λ r. ⌜ FindsLive w (now (sequences .entry)) (now (pages .entry)) (now (blocks .entry)) start end r ⌝ }
 {
     let n = w.n as usize;
     let nonempty_summary = w.nonempty_summary;
     let retired_blocks = w.retired_blocks;
-    let stop = (end - 1) / 64 + 1;
-    let mut from = start / 64;
+    let stop = (end - 1) / PAGE_SLOTS + 1;
+    let mut from = start / PAGE_SLOTS;
     let found = loop {
         let page = next_live_page(blocks, nonempty_summary, retired_blocks, from, stop);
         if stop <= page {
@@ -48,7 +49,7 @@ pub fn find_live(
         if occupied != 0 {
             let cells = page_cells(sequences, page);
             let c = slot_at(cells, words, n, words::lowest(occupied, 0));
-            if 64 <= c {
+            if PAGE_SLOTS <= c {
                 break Found::Unsound;
             }
             break Found::At(cells[c]);

@@ -14,7 +14,7 @@ use Rattle.words.specs.WordLaws.{word-lt}
 use Rattle.model.specs.Table.{sum}
 use Rattle.model.specs.Window.{Block, Window, blocksOf, isRetired}
 use Rattle.model.specs.Pages.{valuesIn}
-use Rattle.model.specs.Steps.{headerWith, withHeader, setRetiredBlocks, setMarks, splitBlock, block, pagesIn, newMarks, retireLive, retireInBlock, retireBlock}
+use Rattle.model.specs.Steps.{headerWith, withHeader, setRetiredBlocks, setMarks, splitBlock, setRetired, setLive, pagesIn, newMarks, retireLive, retireInBlock, retireBlock}
 use Rattle.model.specs.Sound.{liveIn, Sound}
 use Rattle.soundness.specs.Change.{Proper}
 use Rattle.soundness.specs.SumLaws.{sum-same, sum-add, sum-none}
@@ -76,7 +76,7 @@ module _ (w : Window) (from to b : ℕ) where
   abbrev pub withMarks : Window
   withMarks = retireLive (setMarks w b word) b (sum 64 moved)
 
-  own : withMarks .blocks b ≡ block (w .blocks b .nonempty) word (w .blocks b .live - sum 64 moved)
+  own : withMarks .blocks b ≡ setLive (setRetired (w .blocks b) word) (w .blocks b .live - sum 64 moved)
   own = rw (eq-eqb b b refl)
 
   module _ (ok : Retiring w) (below : b < blocksOf w) (unmarked : isSet (w .header .«retired_blocks») b ≡ false) where
@@ -157,7 +157,7 @@ module _ (w : Window) (b : ℕ) (ok : Retiring w) (below : b < blocksOf w) where
   pub all-retired : (i : ℕ) → i < 64 → isRetired marked (64 * b + i) ≡ true
   all-retired i l = let y : (64 * b + i) / 64 ≡ b = omega arith in rw (y, with-same (w .header .«retired_blocks») b 1 (omega arith))
 
-  marked-block : marked .blocks b ≡ block (w .blocks b .nonempty) (w .blocks b .retired) (k - k)
+  marked-block : marked .blocks b ≡ setLive (w .blocks b) (k - k)
   marked-block = rw (eq-eqb b b refl)
 
   pub block-retires : RetiresIn w marked b k

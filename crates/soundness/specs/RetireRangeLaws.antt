@@ -15,7 +15,7 @@ use Rattle.words.specs.SpanLaws.{span-in, span-above}
 use Rattle.window.specs.MemoryLaws.{capacity-pages}
 use Rattle.model.specs.Table.{sum}
 use Rattle.model.specs.Window.{Page, Window, window, capacityOf, pagesOf, blocksOf, isRetired}
-use Rattle.model.specs.Steps.{setLen, setHeld, setRetiredBlocks, block, dropBlockMarks, Returned, returnedBy, removeSlots, retireInBlock, retireBlock, coversBlock, retireBlocks, retirePages, retireStretch, retireRange, retireAll}
+use Rattle.model.specs.Steps.{setLen, setHeld, setRetiredBlocks, setLive, dropBlockMarks, Returned, returnedBy, removeSlots, retireInBlock, retireBlock, coversBlock, retireBlocks, retirePages, retireStretch, retireRange, retireAll}
 use Rattle.model.specs.Sound.{liveIn}
 use Rattle.soundness.specs.Change.{Limits, Proper, SameLimits}
 use Rattle.soundness.specs.SumLaws.{sum-none}
@@ -106,7 +106,7 @@ module _ (w : Window) (ok : Proper w) where
       window
       (setRetiredBlocks (setHeld (setLen (w .header) 0) (w .header .«retired_held» + w .header .len)) (span 0 (blocksOf w)))
       (w .pages)
-      (λ (b : ℕ). cond (ltb b (blocksOf w)) (block (w .blocks b .nonempty) (w .blocks b .retired) 0) (w .blocks b))
+      (λ (b : ℕ). cond (ltb b (blocksOf w)) (setLive (w .blocks b) 0) (w .blocks b))
 
   same-words : (b : ℕ) → (everything .blocks b .nonempty ≡ w .blocks b .nonempty) × (everything .blocks b .retired ≡ w .blocks b .retired)
   same-words b = bool (ltb b (blocksOf w)) (λ e. (rw e, rw e)) (λ e. (rw e, rw e))

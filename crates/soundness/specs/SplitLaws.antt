@@ -13,7 +13,7 @@ use Rattle.words.specs.BitLaws.{bit-none}
 use Rattle.words.specs.ChangeLaws.{with-same, with-other}
 use Rattle.model.specs.Demand3.{one}
 use Rattle.model.specs.Window.{Page, Block, Window, pagesOf, blocksOf}
-use Rattle.model.specs.Steps.{withHeader, setRetiredBlocks, setMarks, splitBlock}
+use Rattle.model.specs.Steps.{setRetired, withHeader, setRetiredBlocks, setMarks, splitBlock}
 use Rattle.page_remove.specs.StandLaws.{clear-fewer}
 use Rattle.soundness.specs.Change.{Proper, noted, SameStatus, Writes, Marking, Changes, Alters}
 use Rattle.soundness.specs.PageLaws.{holds-some, marked-retired, same-counts, same-dense}
@@ -37,7 +37,7 @@ module _ (w : Window) (b : ℕ) where
   abbrev pub split : Window
   split = setMarks (withHeader w (setRetiredBlocks (w .header) (clearBit (w .header .«retired_blocks») b))) b (w .blocks b .nonempty)
 
-  pub own-block : split .blocks b ≡ record { nonempty = w .blocks b .nonempty; retired = w .blocks b .nonempty; live = w .blocks b .live }
+  pub own-block : split .blocks b ≡ setRetired (w .blocks b) (w .blocks b .nonempty)
   own-block = rw (eq-eqb b b refl)
 
   pub other-block : (d : ℕ) → (d ≡ b → ⊥) → split .blocks d ≡ w .blocks d
@@ -58,7 +58,7 @@ module _ (w : Window) (g : ℕ) (ok : Proper w) (below : g < pagesOf w) (mark : 
   abbrev v : Window
   v = split w (g / 64)
 
-  own : v .blocks (g / 64) ≡ record { nonempty = w .blocks (g / 64) .nonempty; retired = w .blocks (g / 64) .nonempty; live = w .blocks (g / 64) .live }
+  own : v .blocks (g / 64) ≡ setRetired (w .blocks (g / 64)) (w .blocks (g / 64) .nonempty)
   own = own-block w (g / 64)
 
   same-status : (h : ℕ) → SameStatus w v h

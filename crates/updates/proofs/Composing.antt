@@ -11,7 +11,7 @@ use Rattle.words.specs.Word.{clearBit}
 use Rattle.window.specs.declared.AdaptiveReceiverPacketWindow.{AdaptiveReceiverPacketWindow}
 use Rattle.model.specs.Window.{Window, Block, upd}
 use Rattle.model.specs.Pages.{holdsValue}
-use Rattle.model.specs.Steps.{withHeader, withBlock, block, setHeld, setMarks, noteNonempty, addLive, subLive, countPromotion, countDemotion, dropBlockMarks}
+use Rattle.model.specs.Steps.{setRetired, withHeader, withBlock, setHeld, setMarks, noteNonempty, addLive, subLive, countPromotion, countDemotion, dropBlockMarks}
 use Rattle.masks.specs.declared.BlockWords.{BlockWords}
 use Rattle.masks.specs.declared.Change.{Change}
 use Rattle.masks.specs.Blocks.{blockOf, changed}
@@ -31,10 +31,10 @@ again : (v : Window) (b : ℕ) (r s : Change) (h : AdaptiveReceiverPacketWindow)
 again v b r s h = λ i. record { header = s .window; pages = v .pages; blocks = λ d. upd-again (v .blocks) b (blockOf (r .block)) (blockOf (s .block)) d i }
 
 -- marks on pages of a block whose words were written
-marks-written : (v : Window) (b : ℕ) (x : Block) (word : ℕ) → setMarks (withBlock v b x) b word ≡ withBlock v b (block (x .nonempty) word (x .live))
+marks-written : (v : Window) (b : ℕ) (x : Block) (word : ℕ) → setMarks (withBlock v b x) b word ≡ withBlock v b (setRetired x word)
 marks-written v b x word =
-    ap (λ (y : Block). withBlock (withBlock v b x) b (block (y .nonempty) word (y .live))) (upd-same (v .blocks) b x)
-    ∙ (λ i. record { header = v .header; pages = v .pages; blocks = λ d. upd-again (v .blocks) b x (block (x .nonempty) word (x .live)) d i })
+    ap (λ (y : Block). withBlock (withBlock v b x) b (setRetired y word)) (upd-same (v .blocks) b x)
+    ∙ (λ i. record { header = v .header; pages = v .pages; blocks = λ d. upd-again (v .blocks) b x (setRetired x word) d i })
 
 -- no count
 none-counted : (x : ℕ) → x < 2 ^ 64 → (x + 0) % 2 ^ 64 ≡ x

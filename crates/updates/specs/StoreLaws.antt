@@ -1,18 +1,18 @@
 -- What the lists read as once a page, its words and its block's words were written. Assumes nothing.
-use mathlib.Core.Path.{_≡_, ap, _∙_}
+use mathlib.Core.Path.{_≡_, refl, ap, _∙_}
 use mathlib.Core.List.{List}
 use Prim.Native.Nat.{ℕ, _+_, _*_, _/_, _≤_, _<_}
 use lib.ListN.{length, drop}
 use Rattle.window.specs.declared.AdaptiveReceiverPacketWindow.{AdaptiveReceiverPacketWindow}
-use Rattle.window.specs.Memory.{memory, pageCount, blockCount}
+use Rattle.window.specs.Memory.{memory, pageCount, blockCount, pageWords, blockWords, rowIn}
 use Rattle.window.specs.WordListLaws.{words-length, words-past}
 use Rattle.model.specs.Window.{Window, decode}
 use Rattle.model.specs.Steps.{withPage}
 use Rattle.pages.specs.declared.PageWords.{PageWords}
-use Rattle.pages.specs.Page.{withPageWords, withPart, page}
+use Rattle.pages.specs.Page.{pageRow, withPageWords, withPart, page}
 use Rattle.pages.specs.DecodeLaws.{decode-page}
 use Rattle.masks.specs.declared.Change.{Change}
-use Rattle.masks.specs.Blocks.{changed}
+use Rattle.masks.specs.Blocks.{blockRow, changed}
 use Rattle.masks.specs.BlockLaws.{decode-changed}
 use Rattle.updates.specs.Contracts.{Stores}
 
@@ -22,21 +22,21 @@ module _ (P : Change → Type 0) (pages blocks : List ℕ) (g : ℕ) (w : PageWo
   change = record { window = r; block = t .block }
 
   pub stored-pages : length pages′ ≡ length pages
-  stored-pages = ap length (t .pages-are) ∙ words-length pages g (w .kind) (w .occupied) (w .filled)
+  stored-pages = ap length (t .pages-are) ∙ words-length pageWords pages g (pageRow w)
 
   pub stored-blocks : length blocks′ ≡ length blocks
-  stored-blocks = ap length (t .blocks-are) ∙ words-length blocks (g / 64) (t .block .nonempty) (t .block .retired) (t .block .live)
+  stored-blocks = ap length (t .blocks-are) ∙ words-length blockWords blocks (g / 64) (blockRow (t .block))
 
   -- what lies past the named lengths stays
-  pub pages-past : (n : ℕ) → g < n → drop (3 * n) pages′ ≡ drop (3 * n) pages
-  pages-past n l = ap (drop (3 * n)) (t .pages-are) ∙ words-past pages g (w .kind) (w .occupied) (w .filled) n l
+  pub pages-past : (n : ℕ) → g < n → drop (pageWords * n) pages′ ≡ drop (pageWords * n) pages
+  pages-past n l = ap (drop (pageWords * n)) (t .pages-are) ∙ words-past pageWords pages g (pageRow w) refl n l
 
-  pub blocks-past : (n : ℕ) → g / 64 < n → drop (3 * n) blocks′ ≡ drop (3 * n) blocks
-  blocks-past n l = ap (drop (3 * n)) (t .blocks-are) ∙ words-past blocks (g / 64) (t .block .nonempty) (t .block .retired) (t .block .live) n l
+  pub blocks-past : (n : ℕ) → g / 64 < n → drop (blockWords * n) blocks′ ≡ drop (blockWords * n) blocks
+  blocks-past n l = ap (drop (blockWords * n)) (t .blocks-are) ∙ words-past blockWords blocks (g / 64) (blockRow (t .block)) refl n l
 
   -- the window that the lists read as, with the page's parts written too
   pub decode-stored : (h : AdaptiveReceiverPacketWindow) (ss vs ps qs : List ℕ) → r .«window_size» ≡ h .«window_size»
-      → g < pageCount (h .«window_size») → g / 64 < blockCount (h .«window_size») → 3 * g + 3 ≤ length pages → 3 * blockCount (h .«window_size») ≤ length blocks
+      → g < pageCount (h .«window_size») → g / 64 < blockCount (h .«window_size») → rowIn pageWords g pages → blockWords * blockCount (h .«window_size») ≤ length blocks
       → 64 * g + 64 ≤ length ss → 64 * g + 64 ≤ length vs → length ps ≡ 64 → length qs ≡ 64
       → decode r (memory (withPart g ss ps) (withPart g vs qs) pages′ blocks′) ≡ changed (withPage (decode h (memory ss vs pages blocks)) g (page w ps qs)) (g / 64) change
   decode-stored h ss vs ps qs e l m words long first second full filled =

@@ -8,8 +8,8 @@ use pages::PageWords;
 use pages::put_page_words;
 use window::AdaptiveReceiverPacketWindow;
 ghost use mathlib.Core.Path.{_≡_};
-ghost use Prim.Native.Nat.{_+_, _*_, _/_, _≤_, _<_};
-ghost use lib.ListN.{length};
+ghost use Prim.Native.Nat.{_/_, _<_};
+ghost use Rattle.window.specs.Memory.{pageWords, blockWords, rowIn};
 ghost use Rattle.masks.specs.Blocks.{blockWordsAt};
 ghost use Rattle.updates.specs.Contracts.{Inserted, Removed, Released, holds as holdsOf, Stores};
 
@@ -29,7 +29,7 @@ pub fn store_inserted(
     words: PageWords,
     promoted: bool,
 ) -> AdaptiveReceiverPacketWindow
-    requires { ⌜ (page < 1024) × (3 * page + 3 ≤ length (now pages)) × (3 * (page / 64) + 3 ≤ length (now blocks)) ⌝ }
+    requires { ⌜ (page < 1024) × rowIn pageWords page (now pages) × rowIn blockWords (page / 64) (now blocks) ⌝ }
     ensures { λ r. ⌜ Stores (Inserted w (blockWordsAt (now (blocks .entry)) (page / 64)) page promoted) (now (pages .entry)) (now (blocks .entry)) page words r (now (pages .exit)) (now (blocks .exit)) ⌝ }
 {
     let block = page / 64;
@@ -50,7 +50,7 @@ pub fn store_removed(
     demoted: bool,
     count: u32,
 ) -> AdaptiveReceiverPacketWindow
-    requires { ⌜ (page < 1024) × (3 * page + 3 ≤ length (now pages)) × (3 * (page / 64) + 3 ≤ length (now blocks)) ⌝ }
+    requires { ⌜ (page < 1024) × rowIn pageWords page (now pages) × rowIn blockWords (page / 64) (now blocks) ⌝ }
     ensures { λ r. ⌜ Stores (Removed w (blockWordsAt (now (blocks .entry)) (page / 64)) page (holdsOf words) demoted count) (now (pages .entry)) (now (blocks .entry)) page words r (now (pages .exit)) (now (blocks .exit)) ⌝ }
 {
     let block = page / 64;
@@ -77,7 +77,7 @@ pub fn store_released(
     words: PageWords,
     count: u32,
 ) -> AdaptiveReceiverPacketWindow
-    requires { ⌜ (page < 1024) × (3 * page + 3 ≤ length (now pages)) × (3 * (page / 64) + 3 ≤ length (now blocks)) ⌝ }
+    requires { ⌜ (page < 1024) × rowIn pageWords page (now pages) × rowIn blockWords (page / 64) (now blocks) ⌝ }
     ensures { λ r. ⌜ Stores (Released w (blockWordsAt (now (blocks .entry)) (page / 64)) page (holdsOf words) count) (now (pages .entry)) (now (blocks .entry)) page words r (now (pages .exit)) (now (blocks .exit)) ⌝ }
 {
     let block = page / 64;

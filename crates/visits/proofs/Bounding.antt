@@ -13,7 +13,7 @@ use Rattle.words.specs.Cases.{bool}
 use Rattle.words.specs.First.{firstFrom}
 use Rattle.words.specs.FirstLaws.{IsFirst, first-is}
 use Rattle.window.specs.declared.AdaptiveReceiverPacketWindow.{AdaptiveReceiverPacketWindow}
-use Rattle.window.specs.Memory.{memory, pageCount, blockCount}
+use Rattle.window.specs.Memory.{memory, pageCount, blockCount, blockWords}
 use Rattle.model.specs.Window.{Window, decode, pagesOf, isRetired}
 use Rattle.model.specs.Pages.{holdsValue}
 use Rattle.model.specs.Steps.{Returned, returnedBy, releasePage, nextRetired, releasePages}
@@ -151,7 +151,7 @@ module _ (h : AdaptiveReceiverPacketWindow) (ss vs pages₀ blocks₀ l₀ : Lis
           true≢false (sym (next-is v (r .sound) m .1) ∙ none-before q (nextRetired v) (omega (arith, same-pages)) (omega (arith, same-pages))))
           (λ e. some (r .none-live) (next-none v (r .sound) e))
 
-      module _ (inside-end : g < end) (blocks-long : 3 * blockCount (w .«window_size») ≤ length blocks) (n : ℕ) (cells : w .n ≡ n) (r : PageReleased)
+      module _ (inside-end : g < end) (blocks-long : blockWords * blockCount (w .«window_size») ≤ length blocks) (n : ℕ) (cells : w .n ≡ n) (r : PageReleased)
           (pages′ blocks′ l′ : List ℕ) (page : ReleasesPage w n ss vs pages blocks l g (at + count) (limit - count) r pages′ blocks′ l′) (room : at + limit ≤ length l₀) where
         abbrev k : ℕ
         k = limit - count

@@ -10,7 +10,7 @@ use lib.ListN.{length}
 use borrow.Author.Tests.{ltb-true}
 use Rattle.words.specs.Cases.{bool}
 use Rattle.window.specs.declared.AdaptiveReceiverPacketWindow.{AdaptiveReceiverPacketWindow}
-use Rattle.window.specs.Memory.{Memory, memory, pageCount, blockCount}
+use Rattle.window.specs.Memory.{Memory, memory, pageCount, blockCount, blockWords}
 use Rattle.window.specs.Refusals.{LongEnough}
 use Rattle.model.specs.Window.{Page, Window, window, decode, pagesOf, isRetired, noPage, noBlock}
 use Rattle.model.specs.Pages.{holdsValue}
@@ -60,7 +60,7 @@ long-kept h w sequences values pages blocks pages′ blocks′ e t long =
     })
 
 -- a page of a sound window
-pub inside : (h : AdaptiveReceiverPacketWindow) (ss vs pages blocks l : List ℕ) (g : ℕ) → g < pageCount (h .«window_size») → 3 * blockCount (h .«window_size») ≤ length blocks
+pub inside : (h : AdaptiveReceiverPacketWindow) (ss vs pages blocks l : List ℕ) (g : ℕ) → g < pageCount (h .«window_size») → blockWords * blockCount (h .«window_size») ≤ length blocks
     → Sound (decode h (memory ss vs pages blocks)) → Inside h (h .n) ss vs pages blocks l g
 inside h ss vs pages blocks l g below long ok = record { below = below; blocks-long = long; placed = page-placed h (memory ss vs pages blocks) ok g below }
 
@@ -80,7 +80,7 @@ cursor-moved h m g end e l =
     ∙ ap (λ (x : ℕ). cond (holdsValue (decode h m .pages g)) g ((g + 1) % x)) e)
 
 pub visit-gives : (h : AdaptiveReceiverPacketWindow) (ss vs pages blocks l : List ℕ) (g at limit end : ℕ) (r : PageReleased) (pages′ blocks′ l′ : List ℕ) (cursor : ℕ)
-    → end ≡ pageCount (h .«window_size») → g < end → 3 * blockCount (h .«window_size») ≤ length blocks
+    → end ≡ pageCount (h .«window_size») → g < end → blockWords * blockCount (h .«window_size») ≤ length blocks
     → ReleasesPage h (h .n) ss vs pages blocks l g at limit r pages′ blocks′ l′ → cursor ≡ nextCursor (wordsAt pages′ g) g end
     → VisitsPage h ss vs pages blocks l g at limit (record { window = setCursor (r .window) cursor; count = r .count; sound = r .sound }) pages′ blocks′ l′
 visit-gives h ss vs pages blocks l g at limit end r pages′ blocks′ l′ cursor e below long t moved =

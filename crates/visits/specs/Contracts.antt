@@ -7,7 +7,7 @@ use Prim.Native.Nat.{ℕ, _+_, _*_, _%_, _≤_}
 use lib.Dec.{eqb}
 use lib.ListN.{length, drop}
 use Rattle.window.specs.declared.AdaptiveReceiverPacketWindow.{AdaptiveReceiverPacketWindow}
-use Rattle.window.specs.Memory.{memory, pageCount, blockCount}
+use Rattle.window.specs.Memory.{memory, pageCount, blockCount, pageWords, blockWords}
 use Rattle.model.specs.Window.{decode}
 use Rattle.model.specs.Steps.{returnedBy, releasePage, nextRetired, moveCursor, releaseOf, release, releasePages}
 use Rattle.model.specs.Sound.{Sound}
@@ -26,8 +26,8 @@ nextCursor words g end = cond (eqb (words .occupied) 0) ((g + 1) % end) g
 pub record WithinNamed (size : ℕ) (pages blocks pages′ blocks′ : List ℕ) : Type 0 where
   pub pages-long : length pages′ ≡ length pages
   pub blocks-long : length blocks′ ≡ length blocks
-  pub pages-past : drop (3 * pageCount size) pages′ ≡ drop (3 * pageCount size) pages
-  pub blocks-past : drop (3 * blockCount size) blocks′ ≡ drop (3 * blockCount size) blocks
+  pub pages-past : drop (pageWords * pageCount size) pages′ ≡ drop (pageWords * pageCount size) pages
+  pub blocks-past : drop (blockWords * blockCount size) blocks′ ≡ drop (blockWords * blockCount size) blocks
 
 -- r is the next page to inspect, the number of pages if there is none
 pub record FindsRetired (h : AdaptiveReceiverPacketWindow) (blocks : List ℕ) (r : ℕ) : Type 0 where

@@ -6,7 +6,7 @@ use window::AdaptiveReceiverPacketWindow;
 use window::memory::page_count;
 ghost use Prim.Native.Nat.{_+_, _*_, _≤_, _<_};
 ghost use lib.ListN.{length};
-ghost use Rattle.window.specs.Memory.{capacity, pageCount, blockCount};
+ghost use Rattle.window.specs.Memory.{capacity, pageCount, blockCount, pageWords, blockWords};
 ghost use Rattle.visits.specs.Contracts.{ReleasesPages};
 
 // Of a window with no live value: the values of the pages from page 0 upwards, at most `limit`, into `returned` from `at` on; the
@@ -22,7 +22,7 @@ pub fn release_pages(
     limit: usize,
 ) -> PageReleased
     requires { ⌜ (w .«window_size» ≤ 65536) × (w .n < 64) × (limit ≤ 256) × (at + limit ≤ length (now returned)) ⌝ }
-    requires { ⌜ (capacity (w .«window_size») ≤ length (now sequences)) × (capacity (w .«window_size») ≤ length (now values)) × (3 * pageCount (w .«window_size») ≤ length (now pages)) × (3 * blockCount (w .«window_size») ≤ length (now blocks)) ⌝ }
+    requires { ⌜ (capacity (w .«window_size») ≤ length (now sequences)) × (capacity (w .«window_size») ≤ length (now values)) × (pageWords * pageCount (w .«window_size») ≤ length (now pages)) × (blockWords * blockCount (w .«window_size») ≤ length (now blocks)) ⌝ }
     ensures { λ r. ⌜ ReleasesPages w (now (sequences .entry)) (now (values .entry)) (now (pages .entry)) (now (blocks .entry)) (now (returned .entry)) at limit r (now (pages .exit)) (now (blocks .exit)) (now (returned .exit)) ⌝ }
 {
     let n = w.n as usize;

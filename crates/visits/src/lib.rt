@@ -11,7 +11,7 @@ use window::memory::page_count;
 ghost use mathlib.Core.Path.{_≡_};
 ghost use Prim.Native.Nat.{_+_, _*_, _≤_, _<_};
 ghost use lib.ListN.{length};
-ghost use Rattle.window.specs.Memory.{capacity, pageCount, blockCount};
+ghost use Rattle.window.specs.Memory.{capacity, pageCount, blockCount, pageWords, blockWords, rowIn};
 ghost use Rattle.pages.specs.Page.{wordsAt};
 ghost use Rattle.visits.specs.Contracts.{nextCursor, FindsRetired, VisitsPage, Releases};
 
@@ -26,7 +26,7 @@ pub struct Visited {
 
 // The first retired page that holds a value, from the cursor upwards and then round; `end`, the number of pages, if there is none.
 fn next_retired(w: AdaptiveReceiverPacketWindow, blocks: &[u64], end: usize) -> usize
-    requires { ⌜ (end ≡ pageCount (w .«window_size»)) × (3 * blockCount (w .«window_size») ≤ length (now blocks)) ⌝ }
+    requires { ⌜ (end ≡ pageCount (w .«window_size»)) × (blockWords * blockCount (w .«window_size») ≤ length (now blocks)) ⌝ }
     ensures { λ r. ⌜ FindsRetired w (now (blocks .entry)) r ⌝ }
 {
     let cursor = w.release_cursor as usize;
@@ -48,7 +48,7 @@ fn next_retired(w: AdaptiveReceiverPacketWindow, blocks: &[u64], end: usize) -> 
 
 // The cursor after page `page` was inspected: an emptied page moves it to the next page, another keeps it there.
 fn next_cursor(pages: &[u64], page: usize, end: usize) -> u32
-    requires { ⌜ (page < end) × (end ≤ 1024) × (3 * page + 3 ≤ length (now pages)) ⌝ }
+    requires { ⌜ (page < end) × (end ≤ 1024) × rowIn pageWords page (now pages) ⌝ }
     ensures { λ r. ⌜ r ≡ nextCursor (wordsAt (now (pages .entry)) page) page end ⌝ }
 {
     let words = page_words(pages, page);
@@ -72,7 +72,7 @@ fn visit_page(
     limit: usize,
 ) -> PageReleased
     requires { ⌜ (end ≡ pageCount (w .«window_size»)) × (page < end) × (w .n < 64) × (limit ≤ 256) × (at + limit ≤ length (now returned)) ⌝ }
-    requires { ⌜ (capacity (w .«window_size») ≤ length (now sequences)) × (capacity (w .«window_size») ≤ length (now values)) × (3 * pageCount (w .«window_size») ≤ length (now pages)) × (3 * blockCount (w .«window_size») ≤ length (now blocks)) ⌝ }
+    requires { ⌜ (capacity (w .«window_size») ≤ length (now sequences)) × (capacity (w .«window_size») ≤ length (now values)) × (pageWords * pageCount (w .«window_size») ≤ length (now pages)) × (blockWords * blockCount (w .«window_size») ≤ length (now blocks)) ⌝ }
     ensures { λ r. ⌜ VisitsPage w (now (sequences .entry)) (now (values .entry)) (now (pages .entry)) (now (blocks .entry)) (now (returned .entry)) page at limit r (now (pages .exit)) (now (blocks .exit)) (now (returned .exit)) ⌝ }
 {
     let n = w.n as usize;
@@ -110,7 +110,7 @@ pub fn release_retired(
     budget: usize,
 ) -> Visited
     requires { ⌜ (w .«window_size» ≤ 65536) × (w .n < 64) × (budget ≤ 256) × (at + budget ≤ length (now returned)) ⌝ }
-    requires { ⌜ (capacity (w .«window_size») ≤ length (now sequences)) × (capacity (w .«window_size») ≤ length (now values)) × (3 * pageCount (w .«window_size») ≤ length (now pages)) × (3 * blockCount (w .«window_size») ≤ length (now blocks)) ⌝ }
+    requires { ⌜ (capacity (w .«window_size») ≤ length (now sequences)) × (capacity (w .«window_size») ≤ length (now values)) × (pageWords * pageCount (w .«window_size») ≤ length (now pages)) × (blockWords * blockCount (w .«window_size») ≤ length (now blocks)) ⌝ }
     ensures { λ r. ⌜ Releases w (now (sequences .entry)) (now (values .entry)) (now (pages .entry)) (now (blocks .entry)) (now (returned .entry)) at budget r (now (pages .exit)) (now (blocks .exit)) (now (returned .exit)) ⌝ }
 {
     let end = page_count(w.window_size);

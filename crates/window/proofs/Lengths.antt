@@ -4,7 +4,7 @@ use mathlib.Core.Bool.{false}
 use Prim.Native.Nat.{ℕ, _*_, _≤_, _<_}
 use lib.Dec.{leb}
 use borrow.Author.Tests.{lt-leb, le-leb}
-use Rattle.window.specs.Memory.{capacity, pageCount, blockCount}
+use Rattle.window.specs.Memory.{capacity, pageCount, blockCount, pageWords, blockWords}
 use Rattle.window.specs.Refusals.{longEnough}
 
 module _ (size s v p b cells : ℕ) (known : cells ≡ capacity size) where
@@ -16,12 +16,12 @@ module _ (size s v p b cells : ℕ) (known : cells ≡ capacity size) where
   unfolding longEnough
   values-short h i = simp (le-leb _ _ (rw known at h), lt-leb _ _ (rw known at i))
 
-  pub pages-short : (page-count : ℕ) → page-count ≡ pageCount size → cells ≤ s → cells ≤ v → p < 3 * page-count → false ≡ longEnough size s v p b
+  pub pages-short : (page-count : ℕ) → page-count ≡ pageCount size → cells ≤ s → cells ≤ v → p < pageWords * page-count → false ≡ longEnough size s v p b
   unfolding longEnough
   pages-short page-count e h i j = simp (le-leb _ _ (rw known at h), le-leb _ _ (rw known at i), lt-leb _ _ (rw e at j))
 
   pub blocks-decide : (page-count block-count : ℕ) → page-count ≡ pageCount size → block-count ≡ blockCount size
-      → cells ≤ s → cells ≤ v → 3 * page-count ≤ p → leb (3 * block-count) b ≡ longEnough size s v p b
+      → cells ≤ s → cells ≤ v → pageWords * page-count ≤ p → leb (blockWords * block-count) b ≡ longEnough size s v p b
   unfolding longEnough
   blocks-decide page-count block-count e f h i j =
       simp (f, le-leb _ _ (rw known at h), le-leb _ _ (rw known at i), le-leb _ _ (rw e at j))

@@ -2,8 +2,9 @@
 -- Definitions only; their laws are in MemoryLaws. Assumes nothing.
 use mathlib.Core.Bool.{Bool}
 use mathlib.Core.List.{List, _++_}
-use Prim.Native.Nat.{ℕ, _+_, _*_, _/_, _%_, _^_}
-use lib.ListN.{drop, replicate, set}
+use Prim.Native.Nat.{ℕ, _+_, _*_, _/_, _%_, _^_, _≤_}
+use lib.ListN.{length, getD, drop, replicate}
+use lib.Seq.{sets}
 use lib.Dec.{leb}
 use Rattle.words.specs.First.{firstFrom}
 
@@ -27,8 +28,15 @@ blockCount size = (pageCount size + 63) / 64
 abbrev pub position : ℕ → ℕ → ℕ
 position size sequence = sequence % capacity size
 
--- The lent memory: `capacity` sequences and `capacity` values, 3 words for each page and 3 for each block.
--- Page p has words 3p, 3p + 1, 3p + 2: kind, occupied, filled; block b likewise: nonempty pages, retired pages, live values.
+-- "3 words (u64) for each page and 3 for each block": kind, occupied, filled; nonempty pages, retired pages, live values
+abbrev pub pageWords : ℕ
+pageWords = 3
+
+abbrev pub blockWords : ℕ
+blockWords = 3
+
+-- The lent memory: `capacity` sequences and `capacity` values, a row of pageWords words for each page and one of blockWords for each
+-- block. Row k of a width begins at width × k.
 pub record Memory : Type 0 where
   pub sequences : List ℕ
   pub values : List ℕ
@@ -42,6 +50,14 @@ memory s v p b = record { sequences = s; values = v; pages = p; blocks = b }
 abbrev pub zeroed : ℕ → List ℕ → List ℕ
 zeroed n words = replicate n 0 ++ drop n words
 
--- a list with these three words for page or block k
-unfoldable pub withWords : List ℕ → ℕ → ℕ → ℕ → ℕ → List ℕ
-withWords words k first second third = set (set (set words (3 * k) first) (3 * k + 1) second) (3 * k + 2) third
+-- row k is in the list
+abbrev pub rowIn : ℕ → ℕ → List ℕ → Type 0
+rowIn width k words = width * k + width ≤ length words
+
+-- word i of row k
+abbrev pub wordAt : ℕ → List ℕ → ℕ → ℕ → ℕ
+wordAt width words k i = getD words (width * k + i) 0
+
+-- a list with this row k
+unfoldable pub withWords : ℕ → List ℕ → ℕ → List ℕ → List ℕ
+withWords width words k row = sets words (width * k) row

@@ -8,7 +8,7 @@ use lib.ListN.{length}
 use Rattle.window.specs.declared.AdaptiveReceiverPacketWindow.{AdaptiveReceiverPacketWindow}
 use Rattle.window.specs.declared.Created.{Created}
 use Rattle.window.specs.declared.Created.the-variants.{New, Refused}
-use Rattle.window.specs.Memory.{Memory, memory, pageCount, blockCount, zeroed}
+use Rattle.window.specs.Memory.{Memory, memory, pageCount, blockCount, pageWords, blockWords, zeroed}
 use Rattle.window.specs.Refusals.{refusalNumber, limits, longEnough}
 use Rattle.window.specs.Lent.{Lent, foundIn, leftIn}
 
@@ -48,7 +48,7 @@ fresh size n demoteAt =
 -- "every page and block word" is 0, and nothing else is written
 unfoldable pub cleared : ℕ → Memory → Memory
 cleared size m =
-    memory (m .sequences) (m .values) (zeroed (3 * pageCount size) (m .pages)) (zeroed (3 * blockCount size) (m .blocks))
+    memory (m .sequences) (m .values) (zeroed (pageWords * pageCount size) (m .pages)) (zeroed (blockWords * blockCount size) (m .blocks))
 
 -- "6 for short memory"
 unfoldable pub shortMemory : ℕ → Memory → ℕ

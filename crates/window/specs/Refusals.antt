@@ -8,7 +8,7 @@ use Rattle.window.specs.declared.refusals.Refusal.{Refusal}
 use Rattle.window.specs.declared.refusals.Refusal.the-variants.{WindowSize, SparseCells, DemoteAt, Occupied, RangeCount, ShortMemory, Unsound, Budget}
 use Rattle.window.specs.declared.refusals.Verdict.{Verdict}
 use Rattle.window.specs.declared.refusals.Verdict.the-variants.{Pass, Refuse}
-use Rattle.window.specs.Memory.{capacity, pageCount, blockCount}
+use Rattle.window.specs.Memory.{capacity, pageCount, blockCount, pageWords, blockWords}
 
 -- document 01's number of each refusal
 abbrev pub refusalNumber : Refusal → ℕ
@@ -41,7 +41,7 @@ limits size n demoteAt =
 -- the lists, by their lengths, are as long as window_size names them
 unfoldable pub longEnough : ℕ → ℕ → ℕ → ℕ → ℕ → Bool
 longEnough size sequences values pages blocks =
-    leb (capacity size) sequences && (leb (capacity size) values && (leb (3 * pageCount size) pages && leb (3 * blockCount size) blocks))
+    leb (capacity size) sequences && (leb (capacity size) values && (leb (pageWords * pageCount size) pages && leb (blockWords * blockCount size) blocks))
 
 -- "All others: first 6, a header outside 1 to 3's limits or a list shorter than named": this does not apply
 unfoldable pub fits : AdaptiveReceiverPacketWindow → ℕ → ℕ → ℕ → ℕ → Bool
@@ -66,8 +66,8 @@ pub record Within (size n demoteAt : ℕ) : Type 0 where
 pub record LongEnough (size sequences values pages blocks : ℕ) : Type 0 where
   pub sequences-long : capacity size ≤ sequences
   pub values-long : capacity size ≤ values
-  pub pages-long : 3 * pageCount size ≤ pages
-  pub blocks-long : 3 * blockCount size ≤ blocks
+  pub pages-long : pageWords * pageCount size ≤ pages
+  pub blocks-long : blockWords * blockCount size ≤ blocks
 
 -- what a call knows of its header and lists once refusal 6 does not apply
 pub record Fits (w : AdaptiveReceiverPacketWindow) (sequences values pages blocks : ℕ) : Type 0 where

@@ -4,6 +4,8 @@ pub mod answers;
 pub mod memory;
 pub mod refusals;
 
+use memory::BLOCK_WORDS;
+use memory::PAGE_WORDS;
 use memory::block_count;
 use memory::clear_words;
 use memory::page_count;
@@ -70,13 +72,13 @@ impl AdaptiveReceiverPacketWindow {
         ) {
             return Created::Refused(Refusal::ShortMemory);
         }
-        clear_words(pages, 3 * page_count(window_size));
-        clear_words(blocks, 3 * block_count(window_size));
+        clear_words(pages, PAGE_WORDS * page_count(window_size));
+        clear_words(blocks, BLOCK_WORDS * block_count(window_size));
         Created::New(Self::fresh(window_size, n, demote_at))
     }
 
     // The header of an empty window.
-    fn fresh(window_size: u32, n: u32, demote_at: u32) -> AdaptiveReceiverPacketWindow
+    pub fn fresh(window_size: u32, n: u32, demote_at: u32) -> AdaptiveReceiverPacketWindow
         ensures { λ r. ⌜ r ≡ freshOf «window_size» n «demote_at» ⌝ }
     {
         AdaptiveReceiverPacketWindow {

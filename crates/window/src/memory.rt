@@ -1,8 +1,17 @@
 // How much memory a window_size names, where a sequence stands in it, and words written.
+use crate::AdaptiveReceiverPacketWindow;
 ghost use mathlib.Core.Path.{_≡_};
-ghost use Prim.Native.Nat.{_+_, _*_, _≤_, _<_};
+ghost use Prim.Native.Nat.{_≤_};
 ghost use lib.ListN.{length};
-ghost use Rattle.window.specs.Memory.{capacity as capacityOf, pageCount, blockCount, position as positionOf, zeroed, withWords};
+ghost use Rattle.window.specs.Memory.{capacity as capacityOf, pageCount, blockCount, position as positionOf, zeroed};
+
+// The positions of a page.
+pub const PAGE_SLOTS: usize = AdaptiveReceiverPacketWindow::PAGE_SLOTS;
+
+// The words of a page, and of a block.
+pub const PAGE_WORDS: usize = 3;
+
+pub const BLOCK_WORDS: usize = 3;
 
 // `window_size`, at least 64, raised to a power of two.
 pub fn capacity(window_size: u32) -> usize
@@ -21,7 +30,7 @@ pub fn page_count(window_size: u32) -> usize
     requires { ⌜ «window_size» ≤ 65536 ⌝ }
     ensures { λ r. ⌜ r ≡ pageCount «window_size» ⌝ }
 {
-    capacity(window_size) / 64
+    capacity(window_size) / PAGE_SLOTS
 }
 
 // 64 pages make a block; the last may have fewer.
@@ -50,15 +59,4 @@ pub fn clear_words(words: &mut [u64], n: usize)
         words[i] = 0;
         i += 1;
     }
-}
-
-// The three words of page or block k.
-pub fn put_words(words: &mut [u64], k: usize, first: u64, second: u64, third: u64)
-    requires { ⌜ (k < 1024) × (3 * k + 3 ≤ length (now words)) ⌝ }
-    ensures { λ _. ⌜ now (words .exit) ≡ withWords (now (words .entry)) k first second third ⌝ }
-{
-    let a = 3 * k;
-    words[a] = first;
-    words[a + 1] = second;
-    words[a + 2] = third;
 }

@@ -1,5 +1,7 @@
 // Why a call refuses, and the tests that calls share: the limits of refusals 1 to 3, the lengths of the lent lists, and refusal 6.
 use crate::AdaptiveReceiverPacketWindow;
+use crate::memory::BLOCK_WORDS;
+use crate::memory::PAGE_WORDS;
 use crate::memory::block_count;
 use crate::memory::capacity;
 use crate::memory::page_count;
@@ -75,10 +77,10 @@ pub fn long_enough(
     if values < cells {
         return false;
     }
-    if pages < 3 * page_count(window_size) {
+    if pages < PAGE_WORDS * page_count(window_size) {
         return false;
     }
-    3 * block_count(window_size) <= blocks
+    BLOCK_WORDS * block_count(window_size) <= blocks
 }
 
 // Whether a call without a return list is not refused 6: the header is inside the limits of 1 to 3, and the lists,

@@ -19,7 +19,15 @@ use window::AdaptiveReceiverPacketWindow;
 use window::Created;
 use window::answers::Answer;
 use window::answers::Step;
+use window::memory::BLOCK_WORDS;
+use window::memory::PAGE_SLOTS;
+use window::memory::PAGE_WORDS;
 ghost use Rattle.windowlines.specs.Program.{Untaken, Creates, Answers};
+
+// The words for the 64 pages of a window of 4096, and for their one block.
+pub const PAGE_LIST: usize = 4096 / PAGE_SLOTS * PAGE_WORDS;
+
+pub const BLOCK_LIST: usize = BLOCK_WORDS;
 
 // The header after a line, and the place after the output so far.
 pub struct Answered {
@@ -38,8 +46,8 @@ fn range_call(
     w: AdaptiveReceiverPacketWindow,
     sequences: &mut [u32; 4096],
     values: &mut [u32; 4096],
-    pages: &mut [u64; 192],
-    blocks: &mut [u64; 3],
+    pages: &mut [u64; PAGE_LIST],
+    blocks: &mut [u64; BLOCK_LIST],
     returned: &mut [u32; 384],
     f: Fields,
 ) -> Called {
@@ -85,8 +93,8 @@ fn call(
     w: AdaptiveReceiverPacketWindow,
     sequences: &mut [u32; 4096],
     values: &mut [u32; 4096],
-    pages: &mut [u64; 192],
-    blocks: &mut [u64; 3],
+    pages: &mut [u64; PAGE_LIST],
+    blocks: &mut [u64; BLOCK_LIST],
     returned: &mut [u32; 384],
     f: Fields,
 ) -> Called {
@@ -129,8 +137,8 @@ fn create(
     w: AdaptiveReceiverPacketWindow,
     sequences: &mut [u32; 4096],
     values: &mut [u32; 4096],
-    pages: &mut [u64; 192],
-    blocks: &mut [u64; 3],
+    pages: &mut [u64; PAGE_LIST],
+    blocks: &mut [u64; BLOCK_LIST],
     returned: &[u32; 384],
     out: &mut [u8; 262144],
     at: usize,
@@ -167,8 +175,8 @@ fn live_pairs(
     w: AdaptiveReceiverPacketWindow,
     sequences: &[u32; 4096],
     values: &[u32; 4096],
-    pages: &[u64; 192],
-    blocks: &[u64; 3],
+    pages: &[u64; PAGE_LIST],
+    blocks: &[u64; BLOCK_LIST],
     listed_sequences: &mut [u32; 4096],
     listed_values: &mut [u32; 4096],
 ) -> usize {
@@ -194,8 +202,8 @@ fn answer_call(
     w: AdaptiveReceiverPacketWindow,
     sequences: &mut [u32; 4096],
     values: &mut [u32; 4096],
-    pages: &mut [u64; 192],
-    blocks: &mut [u64; 3],
+    pages: &mut [u64; PAGE_LIST],
+    blocks: &mut [u64; BLOCK_LIST],
     returned: &mut [u32; 384],
     out: &mut [u8; 262144],
     at: usize,
@@ -230,8 +238,8 @@ pub fn answer(
     w: AdaptiveReceiverPacketWindow,
     sequences: &mut [u32; 4096],
     values: &mut [u32; 4096],
-    pages: &mut [u64; 192],
-    blocks: &mut [u64; 3],
+    pages: &mut [u64; PAGE_LIST],
+    blocks: &mut [u64; BLOCK_LIST],
     returned: &mut [u32; 384],
     listed_sequences: &mut [u32; 4096],
     listed_values: &mut [u32; 4096],

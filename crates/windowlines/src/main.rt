@@ -4,6 +4,8 @@ mod input;
 mod output;
 mod run;
 
+use answer::BLOCK_LIST;
+use answer::PAGE_LIST;
 use run::Program;
 use run::finish;
 use run::flush;
@@ -17,25 +19,14 @@ fn main() {
     let mut line = [0u8; 64];
     let mut sequences = [0u32; 4096];
     let mut values = [0u32; 4096];
-    let mut pages = [0u64; 192];
-    let mut blocks = [0u64; 3];
+    let mut pages = [0u64; PAGE_LIST];
+    let mut blocks = [0u64; BLOCK_LIST];
     let mut returned = [0u32; 384];
     let mut listed_sequences = [0u32; 4096];
     let mut listed_values = [0u32; 4096];
     let mut out = [0u8; 262144];
     let mut program = Program {
-        window: AdaptiveReceiverPacketWindow {
-            window_size: 0,
-            n: 0,
-            demote_at: 0,
-            len: 0,
-            retired_held: 0,
-            release_cursor: 0,
-            nonempty_summary: 0,
-            retired_blocks: 0,
-            promotions: 0,
-            demotions: 0,
-        },
+        window: AdaptiveReceiverPacketWindow::fresh(0, 0, 0),
         length: 0,
         at: 0,
         ended: false,

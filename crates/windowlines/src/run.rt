@@ -1,5 +1,7 @@
 // The lines of a part of the input, each answered as it ends.
 use crate::answer::Answered;
+use crate::answer::BLOCK_LIST;
+use crate::answer::PAGE_LIST;
 use crate::answer::answer;
 use crate::input::parse_line;
 use crate::input::read_some;
@@ -28,8 +30,8 @@ fn answer_line(
     length: usize,
     sequences: &mut [u32; 4096],
     values: &mut [u32; 4096],
-    pages: &mut [u64; 192],
-    blocks: &mut [u64; 3],
+    pages: &mut [u64; PAGE_LIST],
+    blocks: &mut [u64; BLOCK_LIST],
     returned: &mut [u32; 384],
     listed_sequences: &mut [u32; 4096],
     listed_values: &mut [u32; 4096],
@@ -64,8 +66,8 @@ pub fn finish(
     line: &[u8; 64],
     sequences: &mut [u32; 4096],
     values: &mut [u32; 4096],
-    pages: &mut [u64; 192],
-    blocks: &mut [u64; 3],
+    pages: &mut [u64; PAGE_LIST],
+    blocks: &mut [u64; BLOCK_LIST],
     returned: &mut [u32; 384],
     listed_sequences: &mut [u32; 4096],
     listed_values: &mut [u32; 4096],
@@ -129,8 +131,8 @@ fn feed(
     line: &mut [u8; 64],
     sequences: &mut [u32; 4096],
     values: &mut [u32; 4096],
-    pages: &mut [u64; 192],
-    blocks: &mut [u64; 3],
+    pages: &mut [u64; PAGE_LIST],
+    blocks: &mut [u64; BLOCK_LIST],
     returned: &mut [u32; 384],
     listed_sequences: &mut [u32; 4096],
     listed_values: &mut [u32; 4096],
@@ -172,8 +174,8 @@ fn feed_part(
     line: &mut [u8; 64],
     sequences: &mut [u32; 4096],
     values: &mut [u32; 4096],
-    pages: &mut [u64; 192],
-    blocks: &mut [u64; 3],
+    pages: &mut [u64; PAGE_LIST],
+    blocks: &mut [u64; BLOCK_LIST],
     returned: &mut [u32; 384],
     listed_sequences: &mut [u32; 4096],
     listed_values: &mut [u32; 4096],
@@ -207,8 +209,8 @@ pub fn turn(
     line: &mut [u8; 64],
     sequences: &mut [u32; 4096],
     values: &mut [u32; 4096],
-    pages: &mut [u64; 192],
-    blocks: &mut [u64; 3],
+    pages: &mut [u64; PAGE_LIST],
+    blocks: &mut [u64; BLOCK_LIST],
     returned: &mut [u32; 384],
     listed_sequences: &mut [u32; 4096],
     listed_values: &mut [u32; 4096],

@@ -1,5 +1,5 @@
--- The definition is the code's three reads. Assumes nothing.
-use mathlib.Core.Path.{refl}
+-- The definition is the code's reads. Assumes nothing.
+use native.Mathlib.Nat.{add-zero}
 use Rattle.masks.specs.Blocks.{blockWordsAt}
 use borrow.Author.Needs.{needs}
 use Rattle.masks.proofs.block_words.Statement.{statement}
@@ -34,7 +34,7 @@ shared-slice-read-t14 c = search needs
 
 returns : tie.Need-returns
 unfolding blockWordsAt
-returns c = refl
+returns c = rw add-zero
 
 pub block-words-spec : {M : Type 1} → statement M
 block-words-spec =

@@ -6,8 +6,8 @@ use Prim.Native.Nat.{ℕ, _%_}
 use borrow.Author.Tests.{eq-eqb, ne-eqb}
 use Rattle.words.specs.Word.{withBit}
 use Rattle.model.specs.Demand3.{one}
-use Rattle.masks.specs.declared.BlockWords.{BlockWords}
-use Rattle.masks.proofs.Changing.{notes, words}
+use Rattle.masks.specs.Blocks.{withNonempty}
+use Rattle.masks.proofs.Changing.{notes}
 use borrow.Author.Needs.{needs}
 use Rattle.masks.proofs.note_page.Statement.{statement}
 use Rattle.masks.proofs.note_page.Tie as tie
@@ -26,14 +26,13 @@ set-requires-2 c κs = search needs
 
 -- the words after the first test
 words-are : (c : tie.Joined1)
-    → let s = c .before .args in c .if1 .words ≡ words (withBit (s .b .nonempty) (s .page % 64) (one (s .holds))) (s .b .retired) (s .b .live)
+    → let s = c .before .args in c .if1 .words ≡ withNonempty (s .b) (withBit (s .b .nonempty) (s .page % 64) (one (s .holds)))
 words-are c =
     let s = c .before .args in
-    let word : ℕ → BlockWords = λ n. words n (s .b .retired) (s .b .live) in
     let bit : Bool → ℕ = λ h. withBit (s .b .nonempty) (s .page % 64) (one h) in
     ⊎-elim
-    (λ t. t .2 ∙ ap word (t .1 .ensures ∙ ap bit (sym (t .0 .taken))))
-    (λ t. t .2 ∙ ap word (t .1 .ensures ∙ ap bit (sym (t .0 .left))))
+    (λ t. t .2 ∙ ap (withNonempty (s .b)) (t .1 .ensures ∙ ap bit (sym (t .0 .taken))))
+    (λ t. t .2 ∙ ap (withNonempty (s .b)) (t .1 .ensures ∙ ap bit (sym (t .0 .left))))
     (c .if1 .came)
 
 returns : tie.Need-returns

@@ -1,6 +1,7 @@
 use Prim.Native.Nat.{_*_, _≤_, _<_}
 use native.Mathlib.Omega.{arith}
 use lib.ListN.{length}
+use Rattle.window.specs.Memory.{blockWords}
 use Rattle.window.specs.MemoryLaws.{block-count-le, page-count-ge}
 use Rattle.retires.proofs.All.{retires-all}
 use borrow.Author.Needs.{needs}
@@ -19,7 +20,7 @@ block-count-requires : tie.Need-block-count-requires
 block-count-requires c κs = search needs
 
 -- 1 to 16 blocks, in the list
-few : (c : tie.After-block-count) → (0 < c .block-count .result) × (c .block-count .result ≤ 16) × (3 * c .block-count .result ≤ length (c .before .before .args .blocks .now))
+few : (c : tie.After-block-count) → (0 < c .block-count .result) × (c .block-count .result ≤ 16) × (blockWords * c .block-count .result ≤ length (c .before .before .args .blocks .now))
 few c =
     let s = c .before .before in
     let size = s .args .w .«window_size» in

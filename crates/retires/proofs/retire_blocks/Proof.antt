@@ -1,7 +1,7 @@
-use Prim.Native.Nat.{_+_, _*_, _^_, _≤_, _<_}
+use Prim.Native.Nat.{_^_, _<_}
 use native.Mathlib.Omega.{arith}
-use lib.ListN.{length}
 use Rattle.words.specs.Word.{count}
+use Rattle.window.specs.Memory.{blockWords, rowIn}
 use Rattle.retires.proofs.Blocks.{Marking, marking-begins, block-lt, block-named, marking-less, marking-turn, marking-ends}
 use borrow.Author.Needs.{needs}
 use Rattle.retires.proofs.retire_blocks.Statement.{statement}
@@ -32,7 +32,7 @@ lowest-requires : tie.Need-lowest-requires Inv-loop μ-loop
 lowest-requires c κs = search needs
 
 -- the block found is in the list
-named : (c : tie.After-lowest Inv-loop μ-loop) → (c .lowest .result < 16) × (3 * c .lowest .result + 3 ≤ length (c .before .before .loop .blocks))
+named : (c : tie.After-lowest Inv-loop μ-loop) → (c .lowest .result < 16) × rowIn blockWords (c .lowest .result) (c .before .before .loop .blocks)
 named c = block-named _ _ _ _ _ _ _ (c .before .before .loop .inv) (c .before .loop-test .taken) _ (c .lowest .ensures) (c .before .before .before .before .before .pre)
 
 -- src/lib.rt:106:43

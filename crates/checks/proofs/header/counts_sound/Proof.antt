@@ -2,6 +2,7 @@
 use Prim.Native.Nat.{_+_, _*_, _/_, _≤_}
 use native.Mathlib.Omega.{arith}
 use lib.ListN.{length}
+use Rattle.window.specs.Memory.{pageWords, blockWords}
 use Rattle.window.specs.MemoryLaws.{page-count-le}
 use Rattle.checks.proofs.InHeader.{len-differs, counts-decided}
 use borrow.Author.Needs.{needs}
@@ -15,7 +16,7 @@ page-count-requires c κs = search needs
 whole : (c : tie.After-page-count) →
     let s = c .before .before .before .args in
     let n = c .page-count .result in
-    (0 + n ≤ 1024) × (3 * (0 + n) ≤ length (s .pages .now)) × (3 * ((0 + n + 63) / 64) ≤ length (s .blocks .now))
+    (0 + n ≤ 1024) × (pageWords * (0 + n) ≤ length (s .pages .now)) × (blockWords * ((0 + n + 63) / 64) ≤ length (s .blocks .now))
 whole c =
     let s = c .before .before .before in
     let e = c .page-count .ensures in

@@ -1,4 +1,6 @@
 -- The retired word with one bit clear. Assumes nothing.
+use mathlib.Core.Path.{ap}
+use Rattle.masks.specs.Blocks.{withRetired}
 use Rattle.masks.specs.Marks.{withoutMark}
 use borrow.Author.Needs.{needs}
 use Rattle.masks.proofs.marks.unmark_page.Statement.{statement}
@@ -9,9 +11,7 @@ clear-requires c κs = search needs
 
 returns : tie.Need-returns
 unfolding withoutMark
-returns c =
-    let x = c .before .args .b in
-    λ i. record { nonempty = x .nonempty; retired = c .clear .ensures i; live = x .live }
+returns c = ap (withRetired (c .before .args .b)) (c .clear .ensures)
 
 pub unmark-page-spec : {M : Type 1} → statement M
 unmark-page-spec = tie.close (tie.spec clear-requires returns)

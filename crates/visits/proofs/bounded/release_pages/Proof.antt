@@ -7,7 +7,7 @@ use native.Mathlib.Omega.{arith}
 use lib.ListN.{length}
 use borrow.Author.Tests.{not-true}
 use Rattle.words.specs.First.{firstFrom}
-use Rattle.window.specs.Memory.{pageCount, blockCount}
+use Rattle.window.specs.Memory.{pageCount, blockCount, blockWords}
 use Rattle.window.specs.MemoryLaws.{capacity-pages, page-count-le}
 use Rattle.searches.specs.declared.Select.the-variants.{Nonempty}
 use Rattle.searches.specs.Search.{isSelected}
@@ -42,7 +42,7 @@ module _ (c : tie.At-loop Inv-loop μ-loop) where
   cells-is : c .loop .window .n ≡ s .args .w .n
   cells-is = ap (λ (x : Limits). x .cells) (c .loop .inv .limits)
 
-  blocks-long : 3 * blockCount (c .loop .window .«window_size») ≤ length (c .loop .blocks)
+  blocks-long : blockWords * blockCount (c .loop .window .«window_size») ≤ length (c .loop .blocks)
   blocks-long =
       long-kept (s .args .w) (c .loop .window) _ _ (s .args .pages .now) (s .args .blocks .now) (c .loop .pages) (c .loop .blocks) (c .loop .inv .limits) (c .loop .inv .within)
       (record { sequences-long = s .pre .1 .0; values-long = s .pre .1 .1; pages-long = s .pre .1 .2; blocks-long = s .pre .1 .3 }) .blocks-long
