@@ -26,7 +26,7 @@ import sys
 ROOT = os.path.dirname(os.path.dirname(os.path.abspath(__file__)))
 PAPERS = [os.path.join(ROOT, '..', 'shared', 'docs', name) for name in ('00-demands.md', '01-scope.md')]
 TRACE = os.path.join(ROOT, 'docs', 'TRACE.md')
-STATES = ('open', 'held', 'partly', 'informs')
+STATES = ('open', 'held', 'partly', 'told', 'informs')
 TITLES = ['sentence', 'carried by', 'state']
 
 NUMBERED = re.compile(r'\d+\. ')

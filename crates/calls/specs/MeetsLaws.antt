@@ -123,7 +123,7 @@ write-meets c u l r n e t = record {
 
 -- ---- calls that fill a return list
 
-fills-admitted : (step : Window → Effect) (c : Call) (u : State) (l : List ℕ) (r : Left) → 384 ≤ length l → step (windowOf u) ≡ windowDoes (windowOf u) c → Fills step u l r → Admitted c u l r
+pub fills-admitted : (step : Window → Effect) (c : Call) (u : State) (l : List ℕ) (r : Left) → 384 ≤ length l → step (windowOf u) ≡ windowDoes (windowOf u) c → Fills step u l r → Admitted c u l r
 fills-admitted step c u l r long is t =
     let full = stretch-length 0 (r .count) (r .list) (omega (arith, t .few, long, t .wrote .long)) in
     record {

@@ -17,8 +17,7 @@ use Rattle.words.specs.CountLaws.{count-none}
 use Rattle.window.specs.declared.AdaptiveReceiverPacketWindow.{AdaptiveReceiverPacketWindow}
 use Rattle.window.specs.Memory.{Memory, capacity, pageCount, blockCount, pageWords, blockWords, zeroed}
 use Rattle.window.specs.MemoryLaws.{page-count-ge}
-use Rattle.window.specs.Refusals.{limits, longEnough}
-use Rattle.window.specs.Refusals.{Within, LongEnough}
+use Rattle.window.specs.Refusals.{limits, longEnough, Within, LongEnough}
 use Rattle.window.specs.RefusalLaws.{limits-within, long-enough-is, is-fit}
 use Rattle.window.specs.New.{fresh, cleared, made, refused, newResult, NewResult, unlessRefused, shortMemory, newOf}
 use Rattle.model.specs.Calls.{done}

@@ -8,12 +8,11 @@ use lib.Dec.{eqb}
 use borrow.Author.Tests.{eq-eqb, eqb-true}
 use Rattle.words.specs.Cases.{bool, both}
 use Rattle.words.specs.FirstLaws.{first-is, first-eq}
-use Rattle.words.specs.Word.{bitAt, isSet, clearBit, count}
+use Rattle.words.specs.Word.{bitAt, isSet, clearBit, count, lowest}
 use Rattle.words.specs.BitLaws.{bit-lt, bit-none, ext-bits}
 use Rattle.words.specs.ChangeLaws.{with-same, with-other, with-lt}
 use Rattle.words.specs.CountLaws.{count-clear, count-zero, count-none}
 use Rattle.words.specs.LowestLaws.{lowest-is, lowest-some}
-use Rattle.words.specs.Word.{lowest}
 use Rattle.model.specs.Window.{Page, cellOf}
 use Rattle.model.specs.Sound.{Used, SoundPage}
 use Rattle.model.specs.Pages.{takeCell}

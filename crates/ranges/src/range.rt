@@ -5,7 +5,8 @@ use window::AdaptiveReceiverPacketWindow;
 use window::memory::capacity;
 ghost use Prim.Native.Nat.{_+_, _≤_, _<_};
 ghost use lib.ListN.{length};
-ghost use Rattle.window.specs.Memory.{memory, capacity as capacityOf};
+ghost use Rattle.window.specs.Memory.{capacity as capacityOf};
+ghost use Rattle.window.specs.Lent.{foundIn, leftIn};
 ghost use Rattle.window.specs.Refusals.{Fits};
 ghost use Rattle.model.specs.Steps.{retireRange};
 ghost use Rattle.ranges.specs.Spans.{twoStretches};
@@ -25,7 +26,7 @@ fn retire_round(
 ) -> Retired
     requires { ⌜ Fits w (length (now sequences)) (length (now values)) (length (now pages)) (length (now blocks)) ⌝ }
     requires { ⌜ (start < end) × (end ≤ capacityOf (w .«window_size»)) × (capacityOf (w .«window_size») ≤ end) × (0 < rest) × (rest ≤ end) × (128 ≤ length (now returned)) ⌝ }
-    ensures { λ r. ⌜ Performs (twoStretches start end rest) 128 w (memory (now (sequences .entry)) (now (values .entry)) (now (pages .entry)) (now (blocks .entry))) 0 (now (returned .entry)) r (memory (now (sequences .exit)) (now (values .exit)) (now (pages .exit)) (now (blocks .exit))) (now (returned .exit)) ⌝ }
+    ensures { λ r. ⌜ Performs (twoStretches start end rest) 128 w (foundIn sequences values pages blocks) 0 (now (returned .entry)) r (leftIn sequences values pages blocks) (now (returned .exit)) ⌝ }
 {
     let first = retire_span(w, sequences, values, pages, blocks, returned, 0, start, end);
     let left = first.window;
@@ -62,7 +63,7 @@ pub fn retire_range(
 ) -> Retired
     requires { ⌜ Fits w (length (now sequences)) (length (now values)) (length (now pages)) (length (now blocks)) ⌝ }
     requires { ⌜ (start < capacityOf (w .«window_size»)) × (0 < count) × (count ≤ capacityOf (w .«window_size»)) × (128 ≤ length (now returned)) ⌝ }
-    ensures { λ r. ⌜ Performs (λ v. retireRange v start count) 128 w (memory (now (sequences .entry)) (now (values .entry)) (now (pages .entry)) (now (blocks .entry))) 0 (now (returned .entry)) r (memory (now (sequences .exit)) (now (values .exit)) (now (pages .exit)) (now (blocks .exit))) (now (returned .exit)) ⌝ }
+    ensures { λ r. ⌜ Performs (λ v. retireRange v start count) 128 w (foundIn sequences values pages blocks) 0 (now (returned .entry)) r (leftIn sequences values pages blocks) (now (returned .exit)) ⌝ }
 {
     let end = capacity(w.window_size);
     let to = start + count;

@@ -13,7 +13,8 @@ use window::AdaptiveReceiverPacketWindow;
 ghost use Prim.Native.Nat.{_+_, _*_, _≤_, _<_};
 ghost use lib.ListN.{length};
 ghost use Rattle.words.specs.Word.{isSet};
-ghost use Rattle.window.specs.Memory.{memory, pageCount, pageWords, rowIn};
+ghost use Rattle.window.specs.Memory.{pageCount, pageWords, rowIn};
+ghost use Rattle.window.specs.Lent.{foundIn, leftIn};
 ghost use Rattle.window.specs.Refusals.{Fits};
 ghost use Rattle.model.specs.Steps.{removeSlots};
 ghost use Rattle.pages.specs.Page.{wordsAt, partOf};
@@ -84,7 +85,7 @@ fn take_slots(
 ) -> Retired
     requires { ⌜ Fits w (length (now sequences)) (length (now values)) (length (now pages)) (length (now blocks)) ⌝ }
     requires { ⌜ (page < pageCount (w .«window_size»)) × (at + 64 ≤ length (now returned)) ⌝ }
-    ensures { λ r. ⌜ Performs (λ v. takeSlots v page (isSet slots)) 64 w (memory (now (sequences .entry)) (now (values .entry)) (now (pages .entry)) (now (blocks .entry))) at (now (returned .entry)) r (memory (now (sequences .exit)) (now (values .exit)) (now (pages .exit)) (now (blocks .exit))) (now (returned .exit)) ⌝ }
+    ensures { λ r. ⌜ Performs (λ v. takeSlots v page (isSet slots)) 64 w (foundIn sequences values pages blocks) at (now (returned .entry)) r (leftIn sequences values pages blocks) (now (returned .exit)) ⌝ }
 {
     let d = drain_slots(
         sequences,
@@ -121,7 +122,7 @@ pub fn remove_slots(
 ) -> Retired
     requires { ⌜ Fits w (length (now sequences)) (length (now values)) (length (now pages)) (length (now blocks)) ⌝ }
     requires { ⌜ (page < pageCount (w .«window_size»)) × (at + 64 ≤ length (now returned)) ⌝ }
-    ensures { λ r. ⌜ Performs (λ v. removeSlots v page (isSet slots)) 64 w (memory (now (sequences .entry)) (now (values .entry)) (now (pages .entry)) (now (blocks .entry))) at (now (returned .entry)) r (memory (now (sequences .exit)) (now (values .exit)) (now (pages .exit)) (now (blocks .exit))) (now (returned .exit)) ⌝ }
+    ensures { λ r. ⌜ Performs (λ v. removeSlots v page (isSet slots)) 64 w (foundIn sequences values pages blocks) at (now (returned .entry)) r (leftIn sequences values pages blocks) (now (returned .exit)) ⌝ }
 {
     let words = page_words(pages, page);
     if words.occupied == 0 {

@@ -6,7 +6,8 @@ use window::AdaptiveReceiverPacketWindow;
 use window::memory::PAGE_SLOTS;
 ghost use Prim.Native.Nat.{_+_, _*_, _/_, _≤_, _<_};
 ghost use lib.ListN.{length};
-ghost use Rattle.window.specs.Memory.{memory, capacity};
+ghost use Rattle.window.specs.Memory.{capacity};
+ghost use Rattle.window.specs.Lent.{foundIn, leftIn};
 ghost use Rattle.window.specs.Refusals.{Fits};
 ghost use Rattle.model.specs.Steps.{retireStretch};
 ghost use Rattle.soundness.specs.Retire.{firstPage, lastPage};
@@ -29,7 +30,7 @@ fn retire_head(
 ) -> Retired
     requires { ⌜ Fits w (length (now sequences)) (length (now values)) (length (now pages)) (length (now blocks)) ⌝ }
     requires { ⌜ (start < capacity (w .«window_size»)) × (at + partial start ≤ length (now returned)) ⌝ }
-    ensures { λ r. ⌜ Performs (λ v. firstPage v start) (partial start) w (memory (now (sequences .entry)) (now (values .entry)) (now (pages .entry)) (now (blocks .entry))) at (now (returned .entry)) r (memory (now (sequences .exit)) (now (values .exit)) (now (pages .exit)) (now (blocks .exit))) (now (returned .exit)) ⌝ }
+    ensures { λ r. ⌜ Performs (λ v. firstPage v start) (partial start) w (foundIn sequences values pages blocks) at (now (returned .entry)) r (leftIn sequences values pages blocks) (now (returned .exit)) ⌝ }
 {
     if start % PAGE_SLOTS == 0 {
         return Retired {
@@ -65,7 +66,7 @@ fn retire_tail(
 ) -> Retired
     requires { ⌜ Fits w (length (now sequences)) (length (now values)) (length (now pages)) (length (now blocks)) ⌝ }
     requires { ⌜ (end ≤ capacity (w .«window_size»)) × (at + partial end ≤ length (now returned)) ⌝ }
-    ensures { λ r. ⌜ Performs (λ v. lastPage v end) (partial end) w (memory (now (sequences .entry)) (now (values .entry)) (now (pages .entry)) (now (blocks .entry))) at (now (returned .entry)) r (memory (now (sequences .exit)) (now (values .exit)) (now (pages .exit)) (now (blocks .exit))) (now (returned .exit)) ⌝ }
+    ensures { λ r. ⌜ Performs (λ v. lastPage v end) (partial end) w (foundIn sequences values pages blocks) at (now (returned .entry)) r (leftIn sequences values pages blocks) (now (returned .exit)) ⌝ }
 {
     if end % PAGE_SLOTS == 0 {
         return Retired {
@@ -102,7 +103,7 @@ fn retire_ends(
 ) -> Retired
     requires { ⌜ Fits w (length (now sequences)) (length (now values)) (length (now pages)) (length (now blocks)) ⌝ }
     requires { ⌜ (start < capacity (w .«window_size»)) × (end ≤ capacity (w .«window_size»)) × (at + (partial start + partial end) ≤ length (now returned)) ⌝ }
-    ensures { λ r. ⌜ Performs (λ v. endPages v start end) (partial start + partial end) w (memory (now (sequences .entry)) (now (values .entry)) (now (pages .entry)) (now (blocks .entry))) at (now (returned .entry)) r (memory (now (sequences .exit)) (now (values .exit)) (now (pages .exit)) (now (blocks .exit))) (now (returned .exit)) ⌝ }
+    ensures { λ r. ⌜ Performs (λ v. endPages v start end) (partial start + partial end) w (foundIn sequences values pages blocks) at (now (returned .entry)) r (leftIn sequences values pages blocks) (now (returned .exit)) ⌝ }
 {
     let head = retire_head(w, sequences, values, pages, blocks, returned, at, start);
     let begun = head.window;
@@ -130,7 +131,7 @@ fn retire_across(
 ) -> Retired
     requires { ⌜ Fits w (length (now sequences)) (length (now values)) (length (now pages)) (length (now blocks)) ⌝ }
     requires { ⌜ (64 * (start / 64) + 64 < end) × (end ≤ capacity (w .«window_size»)) × (at + (partial start + partial end) ≤ length (now returned)) ⌝ }
-    ensures { λ r. ⌜ Performs (λ v. retireStretch v start end) (partial start + partial end) w (memory (now (sequences .entry)) (now (values .entry)) (now (pages .entry)) (now (blocks .entry))) at (now (returned .entry)) r (memory (now (sequences .exit)) (now (values .exit)) (now (pages .exit)) (now (blocks .exit))) (now (returned .exit)) ⌝ }
+    ensures { λ r. ⌜ Performs (λ v. retireStretch v start end) (partial start + partial end) w (foundIn sequences values pages blocks) at (now (returned .entry)) r (leftIn sequences values pages blocks) (now (returned .exit)) ⌝ }
 {
     let ends = retire_ends(
         w,
@@ -172,7 +173,7 @@ pub fn retire_span(
 ) -> Retired
     requires { ⌜ Fits w (length (now sequences)) (length (now values)) (length (now pages)) (length (now blocks)) ⌝ }
     requires { ⌜ (start < end) × (end ≤ capacity (w .«window_size»)) × (at + spanMost start end ≤ length (now returned)) ⌝ }
-    ensures { λ r. ⌜ Performs (λ v. retireStretch v start end) (spanMost start end) w (memory (now (sequences .entry)) (now (values .entry)) (now (pages .entry)) (now (blocks .entry))) at (now (returned .entry)) r (memory (now (sequences .exit)) (now (values .exit)) (now (pages .exit)) (now (blocks .exit))) (now (returned .exit)) ⌝ }
+    ensures { λ r. ⌜ Performs (λ v. retireStretch v start end) (spanMost start end) w (foundIn sequences values pages blocks) at (now (returned .entry)) r (leftIn sequences values pages blocks) (now (returned .exit)) ⌝ }
 {
     let page = start / PAGE_SLOTS;
     if page == (end - 1) / PAGE_SLOTS {

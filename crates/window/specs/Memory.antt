@@ -58,6 +58,6 @@ rowIn width k words = width * k + width ≤ length words
 abbrev pub wordAt : ℕ → List ℕ → ℕ → ℕ → ℕ
 wordAt width words k i = getD words (width * k + i) 0
 
--- a list with this row k
+-- a list with this row k: its words written one after the other from width × k on
 unfoldable pub withWords : ℕ → List ℕ → ℕ → List ℕ → List ℕ
 withWords width words k row = sets words (width * k) row

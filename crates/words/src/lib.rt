@@ -2,8 +2,7 @@
 // Bit 0 is the lowest. What each function gives is a definition of specs/Word.antt; the laws on those stand beside it.
 ghost use mathlib.Core.Path.{_≡_};
 ghost use Prim.Native.Nat.{_<_, _≤_};
-ghost use Rattle.words.specs.Word.{bitAt, setBit, clearBit};
-ghost use Rattle.words.specs.Word.{span as spanOf, lowest as lowestOf, count as countOf};
+ghost use Rattle.words.specs.Word.{bitAt, setBit, clearBit, span as spanOf, lowest as lowestOf, count as countOf};
 
 // Bit k of w: 1 or 0.
 pub fn bit(w: u64, k: usize) -> u64

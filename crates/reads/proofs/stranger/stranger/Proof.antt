@@ -7,8 +7,7 @@ use Rattle.window.specs.Lent.{ListsFit}
 use Rattle.model.specs.Calls.{stranger}
 use Rattle.model.specs.Contract.{State}
 use Rattle.calls.specs.Answers.{stateOf}
-use Rattle.calls.specs.MeetsLaws.{asked-refusal, asked-fits, asked-meets}
-use Rattle.calls.specs.MeetsLaws.{asked-arguments}
+use Rattle.calls.specs.MeetsLaws.{asked-refusal, asked-fits, asked-meets, asked-arguments}
 use Rattle.calls.specs.RangeLaws.{count-taken}
 use Rattle.model.specs.Steps.{knownBy}
 use Rattle.reads.proofs.stranger.stranger.Statement.{statement}
