@@ -9,27 +9,26 @@ use denote.Enum.Declared.{tagOf}
 use lib.Dec.{leb}
 use lib.ListN.{length, drop}
 use borrow.Author.Tests.{leb-true}
-use Rattle.words.specs.Cases.{bool}
 use Rattle.window.specs.declared.answers.Answer.{Answer}
 use Rattle.window.specs.declared.answers.Step.{Step}
 use Rattle.window.specs.declared.refusals.Refusal.{Refusal}
 use Rattle.window.specs.declared.refusals.Verdict.{Verdict}
 use Rattle.window.specs.declared.refusals.Verdict.the-variants.{Refuse}
-use Rattle.window.specs.Refusals.{refusalNumber, verdictNumber, fits, fitsWithList, Fits}
+use Rattle.window.specs.Refusals.{refusalNumber, verdictNumber, fitsWithList, Fits}
 use Rattle.window.specs.RefusalLaws.{refuses, fits-is}
 use Rattle.window.proofs.refusals.Verdict as verdict
 use Rattle.window.proofs.Verdicts.{passes}
 use Rattle.model.specs.Calls as model
 use Rattle.model.specs.Calls.{Query, Call, ask, refused}
-use Rattle.model.specs.Roles.{Arguments, askedOf, roleOf}
+use Rattle.model.specs.Roles.{askedOf, roleOf}
 use Rattle.model.specs.Table.{first, refusedFor, hasPlaces, argumentRefusal}
 use Rattle.model.specs.Window.{Window}
-use Rattle.model.specs.Steps.{Effect, effect, unlessRefused, knownBy, windowAnswer, windowDoes, windowStep}
+use Rattle.model.specs.Steps.{Effect, unlessRefused, knownBy, windowAnswer, windowDoes, windowStep}
 use Rattle.model.specs.Sound.{Sound}
 use Rattle.model.specs.Contract.{State, windowOf, Left, lengthsFit, refusal, Unaltered, DoesAs, Does, Meets, SamePast, SameLengths}
 use Rattle.pages.specs.DecodeLaws.{header-at}
 use Rattle.page_remove.specs.WroteLaws.{stretch-length}
-use Rattle.calls.specs.Answers.{answerOf, replied, refusedBy, stateOf, leftOf}
+use Rattle.calls.specs.Answers.{answerOf, replied, refusedBy, leftOf}
 use Rattle.calls.specs.Admits.{admission}
 use Rattle.calls.specs.Contracts.{Admitted, Tells, Fills}
 

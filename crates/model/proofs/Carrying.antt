@@ -6,12 +6,10 @@ use mathlib.Core.List.{List}
 use Prim.Native.Nat.{ℕ, _-_, _/_, _≤_}
 use native.Mathlib.Omega.{arith}
 use lib.ListN.{length}
-use Rattle.words.specs.Cases.{bool}
 use Rattle.window.specs.Memory.{capacity}
 use Rattle.window.specs.MemoryLaws.{size-le}
 use Rattle.model.specs.Calls.{Call, release-retired}
 use Rattle.model.specs.Table.{TableState}
-use Rattle.model.specs.Roles.{roleOf}
 use Rattle.model.specs.Demand3.{times, copies, SamePairs, values, pairsBelow, Entry, callsOf, common, Head, History, Demand3}
 use Rattle.model.specs.Positions.{Positions, plain, retiredCount, step}
 use Rattle.model.specs.Refinement.{Refinement, Fresh}

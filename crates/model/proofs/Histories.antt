@@ -1,15 +1,14 @@
 -- From one call to whole histories: if each call of a head keeps what demand 3 asks, so does a history, and two histories of one
 -- common list agree after each call. Assumes nothing.
 use mathlib.Core.Path.{_≡_, refl, sym, ap, _∙_}
-use mathlib.Core.Bool.{true, false, cond}
-use mathlib.Core.List.{List, [], _∷_, _++_}
+use mathlib.Core.Bool.{true, cond}
+use mathlib.Core.List.{List, [], _∷_}
 use Prim.Native.Nat.{ℕ, zero, suc, _+_, _-_, _/_, _≤_}
 use native.Mathlib.Omega.{arith}
-use lib.Dec.{leb}
 use lib.ListN.{length, take}
 use Rattle.words.specs.Cases.{bool}
 use Rattle.window.specs.Memory.{capacity}
-use Rattle.model.specs.Calls.{Call, insert, exchange, remove, remove-range, clear, clear-bounded, release-retired, ask, Answer}
+use Rattle.model.specs.Calls.{Call, insert, exchange, remove, remove-range, clear, clear-bounded, release-retired, ask}
 use Rattle.model.specs.Table.{TableState, freshTable, known, argumentRefusal, Outcome, unlessRefused, tableStep, tableDoes}
 use Rattle.model.specs.Roles.{roleOf, toldOf}
 use Rattle.model.specs.Demand3.{times, copies, SamePairs, values, pairsBelow, lost, tableAfter, tableAnswers, tableEmptied, Entry, callsOf, common, answersOf, sharedOf, acceptedOf, handedBackOf, returnedOf, Visits, no-visit, visit, Head, History, begun, goes-on, stateAfter, After, Agree, Demand3}

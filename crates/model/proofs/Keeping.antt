@@ -12,8 +12,8 @@ use borrow.Author.Tests.{eqb-true, leb-true, le-leb}
 use Rattle.words.specs.Cases.{bool}
 use Rattle.window.specs.Memory.{capacity, pageCount, position}
 use Rattle.window.specs.MemoryLaws.{capacity-pages, position-lt}
-use Rattle.model.specs.Calls.{Query, Call, insert, exchange, remove, remove-range, clear, clear-bounded, release-retired, ask, Answer, done, found, released, refused}
-use Rattle.model.specs.Table.{Pair, Table, fresh, at, held, valueIf, putAt, putAnswer, exchangeAt, removeAt, rangeCount, covers, emptyRange, heldInRange, known, argumentRefusal, TableState, withPairs, Outcome, outcome, untold, tableAnswer, tableStep, tableDoes, unlessRefused as unlessInTable}
+use Rattle.model.specs.Calls.{Call, insert, exchange, remove, remove-range, clear, clear-bounded, release-retired, ask, Answer, done, found, refused}
+use Rattle.model.specs.Table.{Pair, Table, fresh, at, held, valueIf, putAt, putAnswer, exchangeAt, removeAt, rangeCount, covers, heldInRange, known, argumentRefusal, withPairs, Outcome, outcome, tableAnswer, tableStep, tableDoes, unlessRefused as unlessInTable}
 use Rattle.model.specs.Roles.{roleOf, toldOf, given, unlessRefused, ifFound}
 use Rattle.model.specs.Demand3.{times, lost}
 use Rattle.model.specs.Positions.{Positions, positions, plain, drain, release, wipe, moved, sweepRange, Result, result, stays, unlessRefused as unlessAtPositions, retiredCount, step, does, freshPositions}

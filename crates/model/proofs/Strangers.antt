@@ -13,7 +13,7 @@ use Rattle.words.specs.FirstLaws.{round-le, round-held, round-none}
 use Rattle.window.specs.Memory.{position}
 use Rattle.window.specs.MemoryLaws.{position-lt}
 use Rattle.model.specs.Calls.{stranger, ask, Answer, done, new, replaced, absent, found, pair, released, refused}
-use Rattle.model.specs.Table.{Pair, pairOf, rangeCount, covers, isStranger, pairAnswer, strangerIn, known, argumentRefusal}
+use Rattle.model.specs.Table.{Pair, pairOf, rangeCount, covers, isStranger, pairAnswer, strangerIn}
 use Rattle.model.specs.Window.{Window, sizeOf, capacityOf, liveAt}
 use Rattle.model.specs.Steps.{windowStep, windowDoes}
 use Rattle.model.specs.Strangers.{StrangerAt, Tells}

@@ -3,18 +3,17 @@ use mathlib.Core.Path.{_≡_, refl, sym, ap, _∙_, subst}
 use mathlib.Core.List.{List}
 use Prim.Native.Nat.{ℕ, _+_, _*_, _≤_}
 use native.Mathlib.Omega.{arith}
-use lib.Dec.{leb, eqb}
+use lib.Dec.{eqb}
 use lib.ListN.{length, drop}
-use borrow.Author.Tests.{le-leb}
 use Rattle.words.specs.Cases.{bool}
 use Rattle.window.specs.declared.AdaptiveReceiverPacketWindow.{AdaptiveReceiverPacketWindow}
 use Rattle.window.specs.declared.answers.Answer.the-variants.{Done, Found}
 use Rattle.window.specs.Memory.{memory, pageCount, blockCount, pageWords, blockWords}
 use Rattle.window.specs.MemoryLaws.{capacity-le}
 use Rattle.window.specs.Refusals.{Fits}
-use Rattle.model.specs.Calls.{clear, clear-bounded, done, found}
+use Rattle.model.specs.Calls.{done, found}
 use Rattle.model.specs.Window.{Window, decode, pagesOf}
-use Rattle.model.specs.Steps.{Release, release, Returned, releasePages, retireAll, effect, windowStep, windowDoes, clearStep, clearBoundedStep}
+use Rattle.model.specs.Steps.{Release, release, Returned, releasePages, retireAll, effect, clearStep, clearBoundedStep}
 use Rattle.model.specs.Sound.{Sound}
 use Rattle.page_remove.specs.Contracts.{stretch}
 use Rattle.page_remove.specs.WroteLaws.{stretch-length}

@@ -2,10 +2,8 @@
 use mathlib.Core.Path.{_≡_, refl, sym, ap, _∙_}
 use mathlib.Core.Bool.{Bool, true, false, cond}
 use mathlib.Core.List.{List}
-use Prim.Native.Nat.{ℕ, _≤_, _<_}
+use Prim.Native.Nat.{ℕ, _≤_}
 use native.Mathlib.Omega.{arith}
-use lib.Dec.{leb}
-use borrow.Author.Tests.{le-leb, lt-leb}
 use Rattle.words.specs.Cases.{bool}
 use Rattle.window.specs.declared.AdaptiveReceiverPacketWindow.{AdaptiveReceiverPacketWindow}
 use Rattle.window.specs.declared.answers.Answer.{Answer}
@@ -14,7 +12,6 @@ use Rattle.window.specs.declared.answers.Step.{Step}
 use Rattle.window.specs.declared.refusals.Refusal.the-variants.{Unsound}
 use Rattle.window.specs.Memory.{memory}
 use Rattle.model.specs.Contract.{State, windowOf, SamePast, SameLengths}
-use Rattle.model.specs.Table.{first}
 use Rattle.model.specs.Window.{Window, decode}
 use Rattle.model.specs.Steps.{Effect, effect}
 use Rattle.model.specs.Sound.{Sound}

@@ -3,15 +3,13 @@ use mathlib.Core.Path.{_≡_, refl, sym, ap, _∙_}
 use mathlib.Core.List.{List}
 use Prim.Native.Nat.{ℕ, _≤_}
 use native.Mathlib.Omega.{arith}
-use lib.Dec.{leb}
 use lib.ListN.{length}
-use borrow.Author.Tests.{le-leb}
 use Rattle.window.specs.declared.AdaptiveReceiverPacketWindow.{AdaptiveReceiverPacketWindow}
 use Rattle.window.specs.declared.answers.Answer.the-variants.{Released}
 use Rattle.window.specs.Memory.{memory}
-use Rattle.model.specs.Calls.{release-retired, released}
+use Rattle.model.specs.Calls.{released}
 use Rattle.model.specs.Window.{Window, decode}
-use Rattle.model.specs.Steps.{Release, effect, windowStep, windowDoes, releaseStep}
+use Rattle.model.specs.Steps.{Release, effect, releaseStep}
 use Rattle.model.specs.Sound.{Sound}
 use Rattle.page_remove.specs.Contracts.{stretch}
 use Rattle.page_remove.specs.WroteLaws.{stretch-length}

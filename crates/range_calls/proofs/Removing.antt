@@ -4,17 +4,17 @@ use mathlib.Core.Bool.{_&&_}
 use mathlib.Core.List.{List, _++_}
 use Prim.Native.Nat.{ℕ, _+_, _/_, _%_, _^_, _≤_, _<_}
 use native.Mathlib.Omega.{arith}
-use lib.Dec.{leb, eqb}
-use borrow.Author.Tests.{le-leb, eq-eqb, ne-eqb}
+use lib.Dec.{eqb}
+use borrow.Author.Tests.{eq-eqb, ne-eqb}
 use Rattle.words.specs.Cases.{bool}
 use Rattle.window.specs.declared.AdaptiveReceiverPacketWindow.{AdaptiveReceiverPacketWindow}
 use Rattle.window.specs.declared.answers.Answer.the-variants.{Found}
-use Rattle.window.specs.Memory.{Memory, memory, capacity, position}
+use Rattle.window.specs.Memory.{Memory, memory, capacity}
 use Rattle.window.specs.MemoryLaws.{capacity-pages, capacity-le}
-use Rattle.model.specs.Calls.{remove-range, found}
-use Rattle.model.specs.Table.{rangeCount, heldInRange}
+use Rattle.model.specs.Calls.{found}
+use Rattle.model.specs.Table.{heldInRange}
 use Rattle.model.specs.Window.{Window, window, noPage, noBlock, decode, capacityOf, pagesOf, liveAt}
-use Rattle.model.specs.Steps.{withHeader, setCursor, dropBlockMarks, Release, releaseOf, release, retireRange, effect, windowStep, windowDoes, rangeStep}
+use Rattle.model.specs.Steps.{withHeader, setCursor, dropBlockMarks, Release, releaseOf, release, retireRange, effect, rangeStep}
 use Rattle.model.specs.Sound.{Sound}
 use Rattle.pages.specs.DecodeLaws.{header-at}
 use Rattle.page_remove.specs.Contracts.{Wrote, stretch}

@@ -2,7 +2,6 @@
 use mathlib.Core.Path.{_≡_, refl, sym, ap, _∙_}
 use mathlib.Core.Bool.{Bool, true, false, cond, true≢false, _&&_}
 use mathlib.Core.Option.{Option, none, some}
-use mathlib.Core.List.{[]}
 use Prim.Native.Nat.{ℕ, zero, suc, _+_, _-_, _%_}
 use lib.Dec.{eqb, leb, ltb}
 use Rattle.words.specs.Cases.{bool}
@@ -13,7 +12,7 @@ use Rattle.model.specs.Roles.{Arguments, no-argument, sequence-argument, range-
 use Rattle.model.specs.Table.{Pair, Table, holds, valueIf, rangeCount, covers, sequenceOf, searchFrom, isStranger, pairAnswer, strangerIn, Known, first, refusedFor, hasPlaces, argumentRefusal}
 use Rattle.model.specs.Window.{Page, Window, sizeOf, capacityOf, cellOf, liveAt, isReached, cellPair, iterStep}
 use Rattle.model.specs.Pages.{valuesIn, insertPage}
-use Rattle.model.specs.Steps.{Effect, effect, pageOf, liveHere, revive, insertStep, exchangeStep, removeStep, rangeStep, clearStep, clearBoundedStep, releaseStep, unlessRefused, windowAnswer, knownBy, windowStep, windowDoes}
+use Rattle.model.specs.Steps.{Effect, pageOf, liveHere, revive, insertStep, exchangeStep, removeStep, rangeStep, clearStep, clearBoundedStep, releaseStep, unlessRefused, windowAnswer, knownBy, windowStep, windowDoes}
 
 abbrev pub isSeven : Answer → Bool
 isSeven done = false

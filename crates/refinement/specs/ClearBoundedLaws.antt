@@ -1,20 +1,19 @@
 -- All pages released in their order, and clear_bounded: what `step` does at the positions. Assumes nothing.
 use mathlib.Core.Path.{_≡_, refl, sym, ap, subst, _∙_}
-use mathlib.Core.Bool.{Bool, true, false}
-use mathlib.Core.Option.{none, some}
-use mathlib.Core.List.{List, [], _++_}
+use mathlib.Core.Bool.{Bool, false}
+use mathlib.Core.Option.{none}
+use mathlib.Core.List.{[], _++_}
 use Prim.Native.Nat.{ℕ, zero, suc, _+_, _-_, _*_, _/_, _≤_, _<_}
 use native.Mathlib.Omega.{arith}
-use lib.Dec.{leb}
 use lib.ListN.{length}
 use Rattle.words.specs.Cases.{bool}
 use Rattle.window.specs.MemoryLaws.{capacity-pages}
-use Rattle.model.specs.Calls.{clear-bounded, found}
+use Rattle.model.specs.Calls.{clear-bounded}
 use Rattle.model.specs.Table.{fresh}
 use Rattle.model.specs.Window.{Window, capacityOf, pagesOf, liveAt, retiredAt}
 use Rattle.model.specs.Pages.{holdsValue}
-use Rattle.model.specs.Positions.{Positions, positions, Drained, drained, drain, moved, step, does}
-use Rattle.model.specs.Steps.{Returned, returnedBy, releasePage, releasePages, retireAll, clearBoundedStep, windowStep, windowDoes}
+use Rattle.model.specs.Positions.{Positions, positions, Drained, drained, drain, moved, does}
+use Rattle.model.specs.Steps.{Returned, returnedBy, releasePage, releasePages, retireAll, clearBoundedStep, windowDoes}
 use Rattle.model.proofs.Draining.{drain-end, drain-spent, drainThen, drain-append}
 use Rattle.soundness.specs.Change.{Proper}
 use Rattle.soundness.specs.PageLaws.{holds-none}

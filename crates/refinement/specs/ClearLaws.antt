@@ -1,6 +1,6 @@
 -- Everything retired, and released: clear and clear_bounded do to a window what `step` does at its positions. Assumes nothing.
 use mathlib.Core.Path.{_≡_, refl, sym, ap, _∙_}
-use mathlib.Core.Bool.{Bool, true, false, _||_, or-true}
+use mathlib.Core.Bool.{Bool, _||_, or-true}
 use mathlib.Core.Option.{none}
 use mathlib.Core.Logic.{inl, inr}
 use Prim.Native.Nat.{ℕ, _*_, _/_, _≤_}
@@ -10,8 +10,8 @@ use Rattle.window.specs.MemoryLaws.{capacity-pages}
 use Rattle.model.specs.Calls.{clear}
 use Rattle.model.specs.Table.{fresh, within}
 use Rattle.model.specs.Window.{Window, capacityOf, pagesOf, isRetired, liveAt, retiredAt}
-use Rattle.model.specs.Positions.{positions, wipe, moved, step, does}
-use Rattle.model.specs.Steps.{release, retireAll, clearStep, windowStep, windowDoes}
+use Rattle.model.specs.Positions.{positions, wipe, moved, does}
+use Rattle.model.specs.Steps.{release, retireAll, clearStep, windowDoes}
 use Rattle.model.proofs.Sweeping.{within-yes, wipe-in, wipe-above}
 use Rattle.soundness.specs.Change.{Proper}
 use Rattle.soundness.specs.LimitLaws.{all-limits}

@@ -11,7 +11,7 @@ use Rattle.words.specs.Cases.{bool}
 use Rattle.words.specs.First.{firstFrom}
 use Rattle.window.specs.Memory.{position}
 use Rattle.window.specs.MemoryLaws.{position-slot}
-use Rattle.model.specs.Calls.{Query, get, successor-after, first-from, iter, stranger, check, insert, exchange, remove, ask, Answer}
+use Rattle.model.specs.Calls.{Query, get, successor-after, first-from, iter, stranger, check, insert, exchange, remove, ask}
 use Rattle.model.specs.Roles.{ifRefused, roleOf, toldOf}
 use Rattle.model.specs.Table.{Pair, Table, at, putAt, putAnswer, exchangeAt, removeAt, tableAnswer}
 use Rattle.model.specs.Window.{Page, Window, sizeOf, capacityOf, pagesOf, cellOf, standsAt, isRetired, liveAt, retiredAt, isReached, iterStep}

@@ -1,6 +1,6 @@
 -- A stretch and a range retired, and remove_range: what `sweep`, `sweepRange` and `step` do at the positions. Assumes nothing.
 use mathlib.Core.Path.{_≡_, refl, ap, subst, _∙_}
-use mathlib.Core.Bool.{Bool, true, false, cond}
+use mathlib.Core.Bool.{Bool, true, cond}
 use mathlib.Core.List.{[], _++_}
 use Prim.Native.Nat.{ℕ, _+_, _-_, _*_, _/_, _%_, _≤_, _<_}
 use native.Mathlib.Omega.{arith}
@@ -12,8 +12,8 @@ use Rattle.window.specs.MemoryLaws.{capacity-pages, position-lt}
 use Rattle.model.specs.Calls.{remove-range}
 use Rattle.model.specs.Table.{rangeCount, within}
 use Rattle.model.specs.Window.{Window, sizeOf, capacityOf, pagesOf, liveAt, retiredAt}
-use Rattle.model.specs.Positions.{Positions, positions, Drained, drain, wipe, moved, Swept, swept, sweep, sweepRange, retiredCount, step, does}
-use Rattle.model.specs.Steps.{Returned, returnedBy, removeSlots, retirePages, retireStretch, retireRange, release, rangeStep, windowStep, windowDoes}
+use Rattle.model.specs.Positions.{Positions, positions, Drained, drain, wipe, moved, Swept, swept, sweep, sweepRange, retiredCount, does}
+use Rattle.model.specs.Steps.{Returned, returnedBy, removeSlots, retirePages, retireStretch, retireRange, release, rangeStep, windowDoes}
 use Rattle.model.proofs.Draining.{drain-end}
 use Rattle.model.proofs.Sweeping.{within-yes, within-below, within-above}
 use Rattle.model.proofs.Keeping.{count-some}

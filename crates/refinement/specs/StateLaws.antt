@@ -2,11 +2,10 @@
 -- `step` does, and that no sound state is refused 7. Assumes nothing.
 use mathlib.Core.Path.{_≡_, refl, sym, ap, subst, _∙_}
 use mathlib.Core.Bool.{true, false, _&&_}
-use mathlib.Core.Option.{some}
 use mathlib.Core.List.{List, []}
 use Prim.Native.Nat.{ℕ, zero, suc}
 use native.Mathlib.Decide.{ℕ-discrete}
-use lib.Dec.{eqb, leb}
+use lib.Dec.{eqb}
 use lib.ListN.{length, take}
 use Rattle.words.specs.Cases.{bool}
 use Rattle.window.specs.declared.AdaptiveReceiverPacketWindow.{AdaptiveReceiverPacketWindow}
@@ -14,7 +13,7 @@ use Rattle.window.specs.Memory.{Memory}
 use Rattle.window.specs.Refusals.{limits, longEnough, fits}
 use Rattle.model.specs.Calls.{Call, refused}
 use Rattle.model.specs.Roles.{roleOf, toldOf}
-use Rattle.model.specs.Table.{rangeCount, argumentRefusal}
+use Rattle.model.specs.Table.{argumentRefusal}
 use Rattle.model.specs.Demand3.{Entry}
 use Rattle.model.specs.Window.{Window, sizeOf}
 use Rattle.model.specs.Positions.{step}

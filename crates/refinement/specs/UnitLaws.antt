@@ -12,7 +12,7 @@ use Rattle.model.specs.Calls.{release-retired, clear, released}
 use Rattle.model.specs.Demand3.{one}
 use Rattle.model.specs.Window.{Window, capacityOf, pagesOf, isRetired, liveAt, retiredAt}
 use Rattle.model.specs.Pages.{holdsValue}
-use Rattle.model.specs.Positions.{Positions, pageHolds, moved, release as releaseAt, step, does}
+use Rattle.model.specs.Positions.{Positions, pageHolds, moved, release as releaseAt, does}
 use Rattle.model.specs.Steps.{Release, release, releaseStep, windowStep, windowDoes}
 use Rattle.model.proofs.Units.{pagesHeld, pairsHeld, release-few, release-costs}
 use Rattle.soundness.specs.Change.{Proper}

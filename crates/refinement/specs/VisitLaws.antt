@@ -1,20 +1,19 @@
 -- A release does to a window, proper or one while values are retired, what `release` does at its positions. Assumes nothing.
 use mathlib.Core.Path.{_≡_, refl, sym, ap, subst, _∙_}
-use mathlib.Core.Bool.{Bool, true, false, cond}
+use mathlib.Core.Bool.{Bool, true, cond}
 use mathlib.Core.List.{[], _++_}
-use mathlib.Core.Option.{some}
 use Prim.Native.Nat.{ℕ, zero, suc, _+_, _-_, _*_, _%_, _<_}
 use native.Mathlib.Omega.{arith}
-use lib.Dec.{leb, ltb}
+use lib.Dec.{ltb}
 use lib.ListN.{length}
 use borrow.Author.Tests.{ltb-true}
 use Rattle.words.specs.Cases.{bool}
 use Rattle.window.specs.Memory.{pageCount}
-use Rattle.model.specs.Calls.{release-retired, released}
+use Rattle.model.specs.Calls.{release-retired}
 use Rattle.model.specs.Table.{Table}
 use Rattle.model.specs.Window.{Window, pagesOf, isRetired, liveAt, retiredAt}
-use Rattle.model.specs.Positions.{Positions, positions, Drained, drain, nextPage, cursorAfter, Released, releasedOf, step, does, release as releaseAt}
-use Rattle.model.specs.Steps.{dropBlockMarks, Returned, releasePage, nextRetired, moveCursor, Release, releaseOf, releaseUnits, release, releaseStep, windowStep, windowDoes}
+use Rattle.model.specs.Positions.{Positions, positions, Drained, drain, nextPage, cursorAfter, Released, releasedOf, does, release as releaseAt}
+use Rattle.model.specs.Steps.{dropBlockMarks, Returned, releasePage, nextRetired, moveCursor, Release, releaseOf, releaseUnits, release, releaseStep, windowDoes}
 use Rattle.model.proofs.Releasing.{release-stops, release-visits}
 use Rattle.soundness.specs.Change.{Proper}
 use Rattle.soundness.specs.Retire.{Retiring}

@@ -1,16 +1,15 @@
 -- No call that reaches one position or none changes window_size, N or demote_at, and retiring does not. Assumes nothing.
-use mathlib.Core.Path.{_≡_, refl, sym, _∙_}
-use mathlib.Core.Bool.{Bool, true, false, cond, not, _&&_, _||_, true≢false}
+use mathlib.Core.Path.{refl, _∙_}
+use mathlib.Core.Bool.{Bool, true, false, cond, not, _&&_, _||_}
 use mathlib.Core.List.{[], _++_}
 use Prim.Native.Nat.{ℕ, zero, suc, _+_, _-_, _*_, _/_, _%_}
 use lib.Dec.{eqb, leb, ltb}
 use lib.ListN.{length}
 use Rattle.words.specs.Cases.{bool}
 use Rattle.words.specs.Word.{isSet, clearBit}
-use Rattle.model.specs.Table.{rangeCount}
-use Rattle.model.specs.Window.{Window, sizeOf, capacityOf, blocksOf, cellOf, isRetired}
+use Rattle.model.specs.Window.{Window, capacityOf, blocksOf, cellOf, isRetired}
 use Rattle.model.specs.Pages.{holdsValue, takeCell, afterRemoval, demotes, unlessEmptied, drainPage, insertPage}
-use Rattle.model.specs.Steps.{withHeader, withPage, setHeld, setRetiredBlocks, setMarks, noteNonempty, addLive, subLive, countPromotion, countDemotion, dropBlockMarks, splitBlock, allPositions, Returned, returnedBy, releasePage, revive, removeSlots, retireInBlock, retireBlock, coversBlock, retireBlocks, retirePages, retireStretch, retireRange, retireAll, Effect, effect, pageOf, liveHere, finds, isNew, insertStep, exchangeStep, removeStep}
+use Rattle.model.specs.Steps.{withHeader, withPage, setHeld, setRetiredBlocks, setMarks, noteNonempty, addLive, subLive, countPromotion, countDemotion, dropBlockMarks, splitBlock, allPositions, Returned, returnedBy, releasePage, revive, removeSlots, retireInBlock, retireBlock, coversBlock, retireBlocks, retirePages, retireStretch, retireRange, retireAll, Effect, pageOf, liveHere, finds, isNew, insertStep, exchangeStep, removeStep}
 use Rattle.soundness.specs.Change.{SameLimits}
 use Rattle.soundness.specs.Retire.{retireNext, insidePage, firstPage, lastPage}
 

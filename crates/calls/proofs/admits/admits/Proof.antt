@@ -1,5 +1,5 @@
 -- Header and lists are tested first, then the arguments. Assumes nothing.
-use mathlib.Core.Path.{_≡_, sym, _∙_}
+use mathlib.Core.Path.{sym, _∙_}
 use borrow.Author.Tests.{not-true, not-false}
 use borrow.Author.Needs.{needs}
 use Rattle.calls.proofs.admits.admits.Statement.{statement}

@@ -1,9 +1,8 @@
 -- Everything retired, then a visit (clear-fills). Assumes nothing.
-use mathlib.Core.Path.{sym, subst, _∙_}
+use mathlib.Core.Path.{sym, subst}
 use native.Mathlib.Omega.{arith}
 use denote.Ref.{now}
 use borrow.Author.Needs.{needs}
-use Rattle.window.specs.declared.answers.Answer.the-variants.{Done}
 use Rattle.window.specs.declared.answers.Step.{Step}
 use Rattle.window.specs.Memory.{memory}
 use Rattle.model.specs.Steps.{clearStep}

@@ -3,7 +3,6 @@ use mathlib.Core.Path.{sym, subst, _∙_}
 use native.Mathlib.Omega.{arith}
 use denote.Ref.{now}
 use borrow.Author.Needs.{needs}
-use Rattle.window.specs.declared.answers.Answer.the-variants.{Found}
 use Rattle.window.specs.declared.answers.Step.{Step}
 use Rattle.window.specs.Memory.{memory}
 use Prim.Native.Nat.{_≤_}

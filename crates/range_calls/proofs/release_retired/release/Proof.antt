@@ -1,9 +1,8 @@
 -- What a visit released and its units (release-fills). Assumes nothing.
-use mathlib.Core.Path.{sym, subst, _∙_}
+use mathlib.Core.Path.{sym, subst}
 use native.Mathlib.Omega.{arith}
 use denote.Ref.{now}
 use borrow.Author.Needs.{needs}
-use Rattle.window.specs.declared.answers.Answer.the-variants.{Released}
 use Rattle.window.specs.declared.answers.Step.{Step}
 use Rattle.window.specs.Memory.{memory}
 use Prim.Native.Nat.{_≤_}

@@ -2,7 +2,6 @@
 use mathlib.Core.Path.{_∙_}
 use native.Mathlib.Omega.{arith}
 use denote.Ref.{now}
-use borrow.Author.Needs.{needs}
 use Rattle.window.specs.Memory.{memory}
 use Rattle.reads.proofs.Rounding.{after-is}
 use Rattle.reads.proofs.round.find_after.Statement.{statement}
