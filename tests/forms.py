@@ -15,9 +15,9 @@ FORMS = [
     ('that begins at 64 × page', 'points/src/insert.rt', 'insert_in_page', [r'let from = PAGE_SLOTS \* page;', r'&mut sequences\[from\.\.to\]', r'&mut values\[from\.\.to\]']),
     ('the walk over pages yields the first live sequence, or none', 'searches/src/walk.rt', 'find_live', [r'= loop \{', r'break Found::At\(', r'break Found::Nothing;']),
     ('wrapping_sub on sequences stays', 'calls/src/lib.rt', 'range_count', [r'std::num::wrapping_sub_u32\(last, first\)']),
-    ('wrapping_sub on sequences stays', 'reads/src/round.rt', 'find_from', [r'std::num::wrapping_sub_u32\(sequence, 1\)']),
+    ('wrapping_sub on sequences stays', 'reads/src/lib.rt', 'first_from', [r'std::num::wrapping_sub_u32\(sequence, 1\)']),
     ('Command letters', 'text/src/lib.rt', 'field_count', [r"match letter \{", r"b'n' => 3", r"b'i' \| b'e' \| b'd' \| b'q' => 2"]),
-    ('the units used are carried in the answer', 'range_calls/src/release_retired.rt', 'release', [r'Answer::Released\(visited\.count as u32, visited\.units as u32\)']),
+    ('the units used are carried in the answer', 'range_calls/src/release_retired.rt', 'release_retired', [r'Answer::Released\(visited\.count as u32, visited\.units as u32\)']),
     ('belong to the window as its own constants', 'window/src/lib.rt', 'impl AdaptiveReceiverPacketWindow', [
         r'pub const PAGE_SLOTS: usize = 64;', r'pub const MAX_RETIRED_RELEASED_PER_VISIT: usize = 256;', r'pub fn new\(']),
     ("A page's 64 cells are handed out as a part of the lent memory", 'pages/src/lib.rt', 'page_cells', [r'-> &\[u32\]', r'&cells\[from\.\.to\]']),

@@ -14,8 +14,7 @@ use calls::reply;
 use cells::next_cell;
 use pages::page_cells;
 use pages::page_words;
-use round::find_after;
-use round::find_from;
+use round::find_round;
 use window::AdaptiveReceiverPacketWindow;
 use window::answers::Answer;
 use window::answers::Step;
@@ -105,7 +104,7 @@ pub fn successor_after(
     if let Verdict::Refuse(why) = verdict {
         return refuse(w, why);
     }
-    reply(w, find_after(w, sequences, values, pages, blocks, sequence))
+    reply(w, find_round(w, sequences, pages, blocks, sequence))
 }
 
 // The sequence of the first live value from the sequence's own position on, then round.
@@ -131,7 +130,8 @@ pub fn first_from(
     if let Verdict::Refuse(why) = verdict {
         return refuse(w, why);
     }
-    reply(w, find_from(w, sequences, values, pages, blocks, sequence))
+    let before = std::num::wrapping_sub_u32(sequence, 1) % 0x8000_0000;
+    reply(w, find_round(w, sequences, pages, blocks, before))
 }
 
 // The next reachable pair from a cell number on, with the cell after it; done if there is none.

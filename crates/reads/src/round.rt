@@ -10,11 +10,8 @@ ghost use mathlib.Core.Path.{_≡_};
 ghost use Prim.Native.Nat.{_*_, _<_, _≤_};
 ghost use lib.ListN.{length};
 ghost use Rattle.window.specs.Memory.{capacity as capacityOf, pageCount, blockCount, pageWords, blockWords};
-ghost use Rattle.window.specs.Lent.{ListsFit};
-ghost use Rattle.model.specs.Calls.{successor-after, first-from};
 ghost use Rattle.searches.specs.Contracts.{foundAnswer};
 ghost use Rattle.calls.specs.Answers.{answerOf};
-ghost use Rattle.calls.specs.Contracts.{TellsBy};
 ghost use Rattle.reads.specs.Contracts.{FindsRound};
 
 // The answer of a call for what a walk found.
@@ -29,7 +26,7 @@ fn found_answer(found: Found) -> Answer
 }
 
 // The sequence of the first live value from the position after the sequence's on, then from position 0.
-fn find_round(
+pub fn find_round(
     w: AdaptiveReceiverPacketWindow,
     sequences: &[u32],
     pages: &[u64],
@@ -50,35 +47,4 @@ fn find_round(
         return found_answer(find_live(w, sequences, pages, blocks, 0, start));
     }
     found_answer(found)
-}
-
-// The first live value after the sequence's position, round to its own, last of all.
-pub fn find_after(
-    w: AdaptiveReceiverPacketWindow,
-    sequences: &[u32],
-    values: &[u32],
-    pages: &[u64],
-    blocks: &[u64],
-    sequence: u32,
-) -> Answer
-    requires { ⌜ ListsFit w sequences values pages blocks ⌝ }
-    ensures { λ r. ⌜ TellsBy (successor-after sequence) w sequences values pages blocks r ⌝ }
-{
-    find_round(w, sequences, pages, blocks, sequence)
-}
-
-// The first live value from the sequence's own position on, then round: after the sequence before it.
-pub fn find_from(
-    w: AdaptiveReceiverPacketWindow,
-    sequences: &[u32],
-    values: &[u32],
-    pages: &[u64],
-    blocks: &[u64],
-    sequence: u32,
-) -> Answer
-    requires { ⌜ ListsFit w sequences values pages blocks ⌝ }
-    ensures { λ r. ⌜ TellsBy (first-from sequence) w sequences values pages blocks r ⌝ }
-{
-    let before = std::num::wrapping_sub_u32(sequence, 1) % 0x8000_0000;
-    find_round(w, sequences, pages, blocks, before)
 }

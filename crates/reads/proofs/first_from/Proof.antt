@@ -1,5 +1,7 @@
--- Refused as admits says, or else the answer of find_from. Assumes nothing.
+-- Refused as admits says, or else what find_round finds for the sequence before (from-is). Assumes nothing.
+use mathlib.Core.Path.{_∙_}
 use mathlib.Core.Bool.{false≢true}
+use native.Mathlib.Omega.{arith}
 use denote.Ref.{now}
 use borrow.Author.Needs.{needs}
 use Rattle.window.specs.Memory.{memory}
@@ -8,6 +10,7 @@ use Rattle.model.specs.Calls.{first-from}
 use Rattle.model.specs.Contract.{State}
 use Rattle.calls.specs.Answers.{stateOf}
 use Rattle.calls.specs.MeetsLaws.{asked-refusal, asked-fits, asked-meets}
+use Rattle.reads.proofs.Rounding.{from-is}
 use Rattle.reads.proofs.first_from.Statement.{statement}
 use Rattle.reads.proofs.first_from.Tie as tie
 
@@ -37,18 +40,22 @@ enum-told c = search needs
 fit : (m : tie.At-match-keys2) → let s = m .before .before .before .before .before .before .args in ListsFit (s .w) (s .sequences) (s .values) (s .pages) (s .blocks)
 fit m = let s = m .before .before .before .before .before .before .args in asked-fits (first-from (s .sequence)) (found (m .before)) (m .before .admits .result) (m .before .admits .ensures) (m .match .keys2)
 
-find-from-requires : tie.Need-find-from-requires
-find-from-requires c κs = fit (c .before)
+wrapping-sub-u32-requires : tie.Need-wrapping-sub-u32-requires
+wrapping-sub-u32-requires c κs = search needs
+
+find-round-requires : tie.Need-find-round-requires
+find-round-requires c κs = let f = fit (c .before .before) in ((f .within .size-high, omega (arith, f .within .n-high)), (f .long .sequences-long, f .long .pages-long, f .long .blocks-long))
 
 reply-requires : tie.Need-reply-requires
 reply-requires c κs = search needs
 
 returns-2 : tie.Need-returns-2
 returns-2 c =
-    let m : tie.At-match-keys2 = c .before .before .before in
+    let m : tie.At-match-keys2 = c .before .before .before .before in
     let s = m .before .before .before .before .before .before .args in
     asked-meets (first-from (s .sequence)) (found (m .before)) (m .before .admits .result) (m .before .admits .ensures) (m .match .keys2) _ _ (c .reply .ensures) (λ q. absurd (false≢true q))
-    (c .before .find-from .ensures)
+    (λ ok. c .before .find-round .ensures .gives (now (s .values)) ok
+    ∙ from-is (s .w) (memory (now (s .sequences)) (now (s .values)) (now (s .pages)) (now (s .blocks))) (s .sequence) (c .before .before .wrapping-sub-u32 .result) (c .before .before .wrapping-sub-u32 .ensures))
 
 pub first-from-spec : {M : Type 1} → statement M
 first-from-spec =
@@ -59,6 +66,7 @@ first-from-spec =
     refuse-requires
     returns
     enum-told
-    find-from-requires
+    wrapping-sub-u32-requires
+    find-round-requires
     reply-requires
     returns-2)

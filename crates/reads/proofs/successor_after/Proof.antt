@@ -1,5 +1,7 @@
--- Refused as admits says, or else the answer of find_after. Assumes nothing.
+-- Refused as admits says, or else what find_round finds (after-is). Assumes nothing.
+use mathlib.Core.Path.{_∙_}
 use mathlib.Core.Bool.{false≢true}
+use native.Mathlib.Omega.{arith}
 use denote.Ref.{now}
 use borrow.Author.Needs.{needs}
 use Rattle.window.specs.Memory.{memory}
@@ -8,6 +10,7 @@ use Rattle.model.specs.Calls.{successor-after}
 use Rattle.model.specs.Contract.{State}
 use Rattle.calls.specs.Answers.{stateOf}
 use Rattle.calls.specs.MeetsLaws.{asked-refusal, asked-fits, asked-meets}
+use Rattle.reads.proofs.Rounding.{after-is}
 use Rattle.reads.proofs.successor_after.Statement.{statement}
 use Rattle.reads.proofs.successor_after.Tie as tie
 
@@ -37,8 +40,8 @@ enum-told c = search needs
 fit : (m : tie.At-match-keys2) → let s = m .before .before .before .before .before .before .args in ListsFit (s .w) (s .sequences) (s .values) (s .pages) (s .blocks)
 fit m = let s = m .before .before .before .before .before .before .args in asked-fits (successor-after (s .sequence)) (found (m .before)) (m .before .admits .result) (m .before .admits .ensures) (m .match .keys2)
 
-find-after-requires : tie.Need-find-after-requires
-find-after-requires c κs = fit (c .before)
+find-round-requires : tie.Need-find-round-requires
+find-round-requires c κs = let f = fit (c .before) in ((f .within .size-high, omega (arith, f .within .n-high)), (f .long .sequences-long, f .long .pages-long, f .long .blocks-long))
 
 reply-requires : tie.Need-reply-requires
 reply-requires c κs = search needs
@@ -48,7 +51,7 @@ returns-2 c =
     let m : tie.At-match-keys2 = c .before .before .before in
     let s = m .before .before .before .before .before .before .args in
     asked-meets (successor-after (s .sequence)) (found (m .before)) (m .before .admits .result) (m .before .admits .ensures) (m .match .keys2) _ _ (c .reply .ensures) (λ q. absurd (false≢true q))
-    (c .before .find-after .ensures)
+    (λ ok. c .before .find-round .ensures .gives (now (s .values)) ok ∙ after-is (s .w) (memory (now (s .sequences)) (now (s .values)) (now (s .pages)) (now (s .blocks))) (s .sequence))
 
 pub successor-after-spec : {M : Type 1} → statement M
 successor-after-spec =
@@ -59,6 +62,6 @@ successor-after-spec =
     refuse-requires
     returns
     enum-told
-    find-after-requires
+    find-round-requires
     reply-requires
     returns-2)
