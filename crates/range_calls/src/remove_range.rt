@@ -15,10 +15,9 @@ use window::memory::position;
 use window::refusals::Verdict;
 ghost use Prim.Native.Nat.{_≤_, _<_};
 ghost use lib.ListN.{length};
-ghost use Rattle.window.specs.Memory.{capacity, position as positionOf};
+ghost use Rattle.window.specs.Memory.{capacity};
 ghost use Rattle.window.specs.Lent.{foundIn, leftIn, ListsFit};
 ghost use Rattle.model.specs.Calls.{remove-range};
-ghost use Rattle.model.specs.Table.{rangeCount};
 ghost use Rattle.model.specs.Steps.{rangeStep};
 ghost use Rattle.masks.specs.Contracts.{ChangesHeader};
 ghost use Rattle.calls.specs.Answers.{MeetsInto};
@@ -100,25 +99,6 @@ fn remove_positions(
     finish(window, Answer::Found(removed), at + visited.count, sound)
 }
 
-// The same at the positions from first's to last's.
-fn remove_between(
-    w: AdaptiveReceiverPacketWindow,
-    sequences: &mut [u32],
-    values: &mut [u32],
-    pages: &mut [u64],
-    blocks: &mut [u64],
-    returned: &mut [u32],
-    first: u32,
-    last: u32,
-) -> Step
-    requires { ⌜ ListsFit w sequences values pages blocks × (384 ≤ length (now returned)) × (rangeCount first last ≤ w .«window_size») ⌝ }
-    ensures { λ r. ⌜ FillsBy (λ v. rangeStep v (positionOf (w .«window_size») first) (rangeCount first last)) w sequences values pages blocks returned r ⌝ }
-{
-    let start = position(w.window_size, first);
-    let count = range_count(first, last) as usize;
-    remove_positions(w, sequences, values, pages, blocks, returned, start, count)
-}
-
 pub fn remove_range(
     w: AdaptiveReceiverPacketWindow,
     sequences: &mut [u32],
@@ -143,5 +123,7 @@ pub fn remove_range(
     if let Verdict::Refuse(why) = verdict {
         return refuse(w, why);
     }
-    remove_between(w, sequences, values, pages, blocks, returned, first, last)
+    let start = position(w.window_size, first);
+    let count = range_count(first, last) as usize;
+    remove_positions(w, sequences, values, pages, blocks, returned, start, count)
 }

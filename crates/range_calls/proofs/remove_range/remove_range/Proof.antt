@@ -1,18 +1,23 @@
--- Refused as admits says, or else what remove_between does. Assumes nothing.
-use mathlib.Core.Path.{refl}
-use Prim.Native.Nat.{_≤_}
+-- Refused as admits says, or else what remove_positions does at the positions of the range. Assumes nothing.
+use mathlib.Core.Path.{refl, subst}
+use Prim.Native.Nat.{ℕ, _≤_}
+use native.Mathlib.Omega.{arith}
 use denote.Ref.{now}
 use lib.Dec.{leb}
 use lib.ListN.{length}
 use borrow.Author.Needs.{needs}
-use Rattle.window.specs.Memory.{memory}
+use Rattle.window.specs.Memory.{memory, position}
+use Rattle.window.specs.MemoryLaws.{size-le, position-lt}
 use Rattle.window.specs.Lent.{ListsFit}
 use Rattle.model.specs.Calls.{remove-range}
+use Rattle.model.specs.Table.{rangeCount}
+use Rattle.model.specs.Window.{Window}
+use Rattle.model.specs.Steps.{knownBy, rangeStep}
 use Rattle.model.specs.Contract.{State}
-use Rattle.calls.specs.Answers.{stateOf}
+use Rattle.calls.specs.Answers.{stateOf, leftOf}
+use Rattle.calls.specs.Contracts.{Fills}
 use Rattle.calls.specs.MeetsLaws.{refusal-meets, admitted-fits, admitted-places, admitted-arguments, filled-meets}
-use Rattle.model.specs.Steps.{knownBy}
-use Rattle.calls.specs.RangeLaws.{count-taken}
+use Rattle.calls.specs.RangeLaws.{count-taken, count-some}
 use Rattle.range_calls.proofs.Doing.{range-does}
 use Rattle.range_calls.proofs.remove_range.remove_range.Statement.{statement}
 use Rattle.range_calls.proofs.remove_range.remove_range.Tie as tie
@@ -41,20 +46,31 @@ enum-told c = search needs
 
 -- past the refusals
 fit : (m : tie.At-match-keys2) → let s = m .before .before .before .before .before .before .before .args in ListsFit (s .w) (s .sequences) (s .values) (s .pages) (s .blocks)
-fit m =
-    let s = m .before .before .before .before .before .before .before .args in
-    admitted-fits (remove-range (s .first) (s .last) (leb 384 (length (now (s .returned))))) (found (m .before)) (length (now (s .returned))) refl (m .before .admits .result) (m .before .admits .ensures) (m .match .keys2)
+fit m = let s = m .before .before .before .before .before .before .before .args in admitted-fits (remove-range (s .first) (s .last) (leb 384 (length (now (s .returned))))) (found (m .before)) (length (now (s .returned))) refl (m .before .admits .result) (m .before .admits .ensures) (m .match .keys2)
 
 long : (m : tie.At-match-keys2) → 384 ≤ length (now (m .before .before .before .before .before .before .before .args .returned))
-long m =
-    let s = m .before .before .before .before .before .before .before .args in
-    admitted-places (remove-range (s .first) (s .last) (leb 384 (length (now (s .returned))))) (found (m .before)) (length (now (s .returned))) refl (m .before .admits .result) (m .before .admits .ensures) (m .match .keys2)
+long m = let s = m .before .before .before .before .before .before .before .args in admitted-places (remove-range (s .first) (s .last) (leb 384 (length (now (s .returned))))) (found (m .before)) (length (now (s .returned))) refl (m .before .admits .result) (m .before .admits .ensures) (m .match .keys2)
 
-remove-between-requires : tie.Need-remove-between-requires
-remove-between-requires c κs =
-    let m : tie.At-match-keys2 = c .before .before .before .before .before .before in
+few : (m : tie.At-match-keys2) → let s = m .before .before .before .before .before .before .before .args in rangeCount (s .first) (s .last) ≤ s .w .«window_size»
+few m = let s = m .before .before .before .before .before .before .before .args in count-taken (knownBy (s .w)) (s .first) (s .last) (admitted-arguments (remove-range (s .first) (s .last) (leb 384 (length (now (s .returned))))) (found (m .before)) (length (now (s .returned))) refl (m .before .admits .result) (m .before .admits .ensures) (m .match .keys2))
+
+position-requires : tie.Need-position-requires
+position-requires c κs = fit (c .before) .within .size-high
+
+range-count-requires : tie.Need-range-count-requires
+range-count-requires c κs = search needs
+
+cast-count : tie.Need-cast-count
+cast-count c = search needs
+
+remove-positions-requires : tie.Need-remove-positions-requires
+remove-positions-requires c κs =
+    let k : tie.After-range-count = c .before .before .before .before .before in
+    let m : tie.At-match-keys2 = k .before .before .before in
     let s = m .before .before .before .before .before .before .before .args in
-    (fit m, long m, count-taken (knownBy (s .w)) (s .first) (s .last) (admitted-arguments (remove-range (s .first) (s .last) (leb 384 (length (now (s .returned))))) (found (m .before)) (length (now (s .returned))) refl (m .before .admits .result) (m .before .admits .ensures) (m .match .keys2)))
+    let f = fit m in
+    let size = s .w .«window_size» in
+    (f, (omega (arith, k .before .position .ensures, position-lt size (s .first)), omega (arith, k .range-count .ensures, count-some (s .first) (s .last)), omega (arith, k .range-count .ensures, few m, size-le size (f .within .size-high)), long m))
 
 same-length : tie.Need-same-length
 same-length c = search needs
@@ -73,11 +89,16 @@ same-length-5 c = search needs
 
 returns-2 : tie.Need-returns-2
 returns-2 c =
-    let r : tie.After-remove-between = c .before .before .before .before .before .before .before .before .before .before in
-    let m : tie.At-match-keys2 = r .before .before .before .before .before .before .before in
+    let r : tie.After-remove-positions = c .before .before .before .before .before .before .before .before .before .before in
+    let k : tie.After-range-count = r .before .before .before .before .before .before in
+    let m : tie.At-match-keys2 = k .before .before .before in
     let s = m .before .before .before .before .before .before .before .args in
+    let t = r .remove-positions in
+    let left = leftOf (t .result) (memory (t .last .1 .0) (t .last .1 .1 .0) (t .last .1 .1 .1 .0) (t .last .1 .1 .1 .1 .0)) (t .last .1 .1 .1 .1 .1 .0) in
     filled-meets (remove-range (s .first) (s .last) (leb 384 (length (now (s .returned))))) (found (m .before)) (length (now (s .returned))) refl (m .before .admits .result) (m .before .admits .ensures) (m .match .keys2) (now (s .returned)) _ refl refl
-    _ (range-does (s .w) (memory (now (s .sequences)) (now (s .values)) (now (s .pages)) (now (s .blocks))) (s .first) (s .last) (leb 384 (length (now (s .returned))))) (r .remove-between .ensures)
+    _ (range-does (s .w) (memory (now (s .sequences)) (now (s .values)) (now (s .pages)) (now (s .blocks))) (s .first) (s .last) (leb 384 (length (now (s .returned)))))
+    (subst (λ (n : ℕ). Fills (λ (w : Window). rangeStep w (position (s .w .«window_size») (s .first)) n) (found (m .before)) (now (s .returned)) left) (k .range-count .ensures)
+    (subst (λ (p : ℕ). Fills (λ (w : Window). rangeStep w p (k .range-count .result)) (found (m .before)) (now (s .returned)) left) (k .before .position .ensures) (t .ensures)))
 
 pub remove-range-spec : {M : Type 1} → statement M
 remove-range-spec =
@@ -88,7 +109,10 @@ remove-range-spec =
     refuse-requires
     returns
     enum-told
-    remove-between-requires
+    position-requires
+    range-count-requires
+    cast-count
+    remove-positions-requires
     same-length
     same-length-2
     same-length-3
