@@ -18,34 +18,34 @@ ROOT = Path(__file__).resolve().parent.parent
 HEAD = re.compile(r'^(?P<indent>[^\S\n]*)(?P<head>(?:pub )?(?:extern "C" )?fn (?P<name>\w+)\((?P<parameters>[^)]*)\).*?)\n(?P=indent)\{', re.DOTALL | re.MULTILINE)
 LISTS = ['sequences', 'values', 'pages', 'blocks']
 # the crates of each kind of exported function: what stands before the call's name, the two records, and where they are defined
-BY_VALUE = ('', 'MeetsBy', 'MeetsInto', 'calls', 'Answers')
+BY_VALUE = ('', 'MeetsBy', 'MeetsInto', 'call_base', 'Answers')
 KINDS = {
-    'reads': BY_VALUE,
-    'points': BY_VALUE,
-    'range_calls': BY_VALUE,
-    'checks': BY_VALUE,
-    'host': ('', 'HostMeetsBy', 'HostMeetsInto', 'host', 'Lent'),
-    'exports': ('packet_window_', 'NumbersMeetBy', 'NumbersMeetInto', 'exports', 'Numbers'),
-    'audit_exports': ('packet_window_', 'NumbersMeetBy', 'NumbersMeetInto', 'exports', 'Numbers'),
-    'host_exports': ('packet_window_host_', 'OutcomeMeetsBy', 'OutcomeMeetsInto', 'host_exports', 'Outcomes'),
+    'call_read': BY_VALUE,
+    'call_point': BY_VALUE,
+    'call_retire': BY_VALUE,
+    'call_check': BY_VALUE,
+    'call_host': ('', 'HostMeetsBy', 'HostMeetsInto', 'call_host', 'Lent'),
+    'c_calls': ('packet_window_', 'NumbersMeetBy', 'NumbersMeetInto', 'c_calls', 'Numbers'),
+    'c_audit': ('packet_window_', 'NumbersMeetBy', 'NumbersMeetInto', 'c_calls', 'Numbers'),
+    'c_host': ('packet_window_host_', 'OutcomeMeetsBy', 'OutcomeMeetsInto', 'c_host', 'Outcomes'),
 }
 # new: crate, function, record, where it is defined
-NEW = [('window', 'new', 'NewBy', 'window', 'New'), ('exports', 'packet_window_new', 'CreatesBy', 'exports', 'Numbers')]
-TEXT = {'text': ['parse'], 'lines': ['put_line', 'put_list', 'put_unknown']}
+NEW = [('window', 'new', 'NewBy', 'window', 'New'), ('c_calls', 'packet_window_new', 'CreatesBy', 'c_calls', 'Numbers')]
+TEXT = {'line_text': ['parse'], 'line_output': ['put_line', 'put_list', 'put_unknown']}
 # what the records say: each line stands in its file, word for word
 DEFINED = {
     'crates/model/specs/Contract.antt': ['Does = DoesAs windowStep Sound', 'Meets = MeetsAs windowStep Sound'],
     'crates/model/specs/Heads.antt': ['  pub meets : Meets (e .call) u list left'],
-    'crates/calls/specs/Answers.antt': [
+    'crates/call_base/specs/Answers.antt': [
         'MeetsBy c w ss vs pages blocks r = Meets c (stateOf w (foundIn ss vs pages blocks)) [] (leftOf r (leftIn ss vs pages blocks) [])',
         '    Meets (c (leb 384 (length (now (l .entry))))) (stateOf w (foundIn ss vs pages blocks)) (now (l .entry)) (leftOf r (leftIn ss vs pages blocks) (now (l .exit)))'],
-    'crates/host/specs/Lent.antt': [
+    'crates/call_host/specs/Lent.antt': [
         'HostMeetsBy c w ss vs pages blocks r = Meets c (stateOf (now (w .entry)) (foundIn ss vs pages blocks)) [] (leftAt (now (w .exit)) r (leftIn ss vs pages blocks) [])',
         '    Meets (c (leb 384 (length (now (l .entry))))) (stateOf (now (w .entry)) (foundIn ss vs pages blocks)) (now (l .entry))'],
-    'crates/exports/specs/Numbers.antt': [
+    'crates/c_calls/specs/Numbers.antt': [
         '  pub numbers : r .answer ≡ numbersOf answer',
         '  pub meets : Meets c u l (record { answer = answer; count = r .count; state = stateOf (r .window) m; list = l′ })'],
-    'crates/host_exports/specs/Outcomes.antt': [
+    'crates/c_host/specs/Outcomes.antt': [
         '  pub numbers : r .answer ≡ numbersOf answer',
         '  pub meets : Meets c u l (record { answer = answer; count = r .count; state = stateOf w m; list = l′ })'],
 }
@@ -121,7 +121,7 @@ def problems(texts):
     for crate, kind in KINDS.items():
         for function in functions(texts, crate):
             name = function.name.removeprefix(kind[0])
-            exported = 'extern "C"' in function.head if kind[0] else 'pub fn' in function.head and (crate == 'host' or name in calls)
+            exported = 'extern "C"' in function.head if kind[0] else 'pub fn' in function.head and (crate == 'call_host' or name in calls)
             if not exported or (crate, function.name) in [new[:2] for new in NEW]:
                 continue
             seen[crate, function.name] = function
@@ -171,28 +171,28 @@ def axioms(crate):
 # each wrong contract: file, old text, new text
 WRONG = [
     # a reflexivity for a contract
-    ('crates/audit_exports/src/lib.rt', 'NumbersMeetBy (ask (strangerOf first last)) w sequences values pages blocks r', 'r ≡ r'),
+    ('crates/c_audit/src/lib.rt', 'NumbersMeetBy (ask (strangerOf first last)) w sequences values pages blocks r', 'r ≡ r'),
     # the contract of another call
-    ('crates/audit_exports/src/lib.rt', 'NumbersMeetBy (ask (strangerOf first last))', 'NumbersMeetBy (ask checkOf)'),
-    ('crates/points/src/remove.rt', 'remove as removeOf', 'exchange as removeOf'),
+    ('crates/c_audit/src/lib.rt', 'NumbersMeetBy (ask (strangerOf first last))', 'NumbersMeetBy (ask checkOf)'),
+    ('crates/call_point/src/remove.rt', 'remove as removeOf', 'exchange as removeOf'),
     # another argument
-    ('crates/reads/src/stranger.rt', 'MeetsBy (ask (strangerOf first last))', 'MeetsBy (ask (strangerOf first first))'),
+    ('crates/call_read/src/stranger.rt', 'MeetsBy (ask (strangerOf first last))', 'MeetsBy (ask (strangerOf first first))'),
     # the contract of an inner function: what the call does, without its refusals
-    ('crates/reads/src/lib.rt', 'MeetsBy (ask (getOf sequence)) w sequences values pages blocks r', 'AdmittedBy (ask (getOf sequence)) w sequences values pages blocks r'),
+    ('crates/call_read/src/lib.rt', 'MeetsBy (ask (getOf sequence)) w sequences values pages blocks r', 'AdmittedBy (ask (getOf sequence)) w sequences values pages blocks r'),
     # a record of the same name from elsewhere
-    ('crates/reads/src/lib.rt', 'Rattle.calls.specs.Answers.{MeetsBy}', 'Rattle.reads.specs.Contracts.{MeetsBy}'),
+    ('crates/call_read/src/lib.rt', 'Rattle.call_base.specs.Answers.{MeetsBy}', 'Rattle.call_read.specs.Contracts.{MeetsBy}'),
     # the contract of every call at what the call does, not at the whole step; on no window
     ('crates/model/specs/Contract.antt', 'Meets = MeetsAs windowStep Sound', 'Meets = MeetsAs windowDoes Sound'),
     ('crates/model/specs/Contract.antt', 'Meets = MeetsAs windowStep Sound', 'Meets = MeetsAs windowStep (λ w. ⊥)'),
     # what can be asked of no caller
-    ('crates/reads/src/lib.rt', 'ensures { λ r. ⌜ MeetsBy (ask (getOf sequence))', 'requires { ⌜ ListsFit w sequences values pages blocks ⌝ }\n    ensures { λ r. ⌜ MeetsBy (ask (getOf sequence))'),
+    ('crates/call_read/src/lib.rt', 'ensures { λ r. ⌜ MeetsBy (ask (getOf sequence))', 'requires { ⌜ ListsFit w sequences values pages blocks ⌝ }\n    ensures { λ r. ⌜ MeetsBy (ask (getOf sequence))'),
     # an exported call that is no call of the model, and a call that is not exported
     ('crates/model/specs/Calls.antt', '  stranger : (first last : ℕ) → Query\n', ''),
-    ('crates/audit_exports/src/lib.rt', 'fn packet_window_check(', 'fn packet_window_checked('),
+    ('crates/c_audit/src/lib.rt', 'fn packet_window_check(', 'fn packet_window_checked('),
     # new
-    ('crates/exports/src/lib.rt', 'CreatesBy «window_size» n «demote_at»', 'CreatesBy «window_size» n n'),
-    ('crates/host/src/lib.rt', 'HostMeetsBy (removeOf sequence) w', 'HostMeetsBy (removeOf 0) w'),
-    ('crates/host_exports/src/lib.rt', 'OutcomeMeetsInto (release-retired budget)', 'OutcomeMeetsInto (release-retired 256)'),
+    ('crates/c_calls/src/lib.rt', 'CreatesBy «window_size» n «demote_at»', 'CreatesBy «window_size» n n'),
+    ('crates/call_host/src/lib.rt', 'HostMeetsBy (removeOf sequence) w', 'HostMeetsBy (removeOf 0) w'),
+    ('crates/c_host/src/lib.rt', 'OutcomeMeetsInto (release-retired budget)', 'OutcomeMeetsInto (release-retired 256)'),
 ]
 
 

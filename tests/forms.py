@@ -10,20 +10,20 @@ from pathlib import Path
 
 ROOT = Path(__file__).resolve().parent.parent
 FORMS = [
-    ('that begins at 64 × page', 'points/src/exchange.rt', 'exchange_in_page', [r'let from = PAGE_SLOTS \* page;', r'&mut values\[from\.\.to\]']),
-    ('that begins at 64 × page', 'points/src/remove.rt', 'remove_in_page', [r'let from = PAGE_SLOTS \* page;', r'&mut sequences\[from\.\.to\]', r'&mut values\[from\.\.to\]']),
-    ('that begins at 64 × page', 'points/src/insert.rt', 'insert_in_page', [r'let from = PAGE_SLOTS \* page;', r'&mut sequences\[from\.\.to\]', r'&mut values\[from\.\.to\]']),
-    ('the walk over pages yields the first live sequence, or none', 'searches/src/walk.rt', 'find_live', [r'= loop \{', r'break Found::At\(', r'break Found::Nothing;']),
-    ('wrapping_sub on sequences stays', 'calls/src/lib.rt', 'range_count', [r'std::num::wrapping_sub_u32\(last, first\)']),
-    ('wrapping_sub on sequences stays', 'reads/src/lib.rt', 'first_from', [r'std::num::wrapping_sub_u32\(sequence, 1\)']),
-    ('Command letters', 'text/src/lib.rt', 'field_count', [r"match letter \{", r"b'n' => 3", r"b'i' \| b'e' \| b'd' \| b'q' => 2"]),
-    ('the units used are carried in the answer', 'range_calls/src/release_retired.rt', 'release_retired', [r'Answer::Released\(visited\.count as u32, visited\.units as u32\)']),
+    ('that begins at 64 × page', 'call_point/src/exchange.rt', 'exchange_in_page', [r'let from = PAGE_SLOTS \* page;', r'&mut values\[from\.\.to\]']),
+    ('that begins at 64 × page', 'call_point/src/remove.rt', 'remove_in_page', [r'let from = PAGE_SLOTS \* page;', r'&mut sequences\[from\.\.to\]', r'&mut values\[from\.\.to\]']),
+    ('that begins at 64 × page', 'call_point/src/insert.rt', 'insert_in_page', [r'let from = PAGE_SLOTS \* page;', r'&mut sequences\[from\.\.to\]', r'&mut values\[from\.\.to\]']),
+    ('the walk over pages yields the first live sequence, or none', 'block_search/src/walk.rt', 'find_live', [r'= loop \{', r'break Found::At\(', r'break Found::Nothing;']),
+    ('wrapping_sub on sequences stays', 'call_base/src/lib.rt', 'range_count', [r'std::num::wrapping_sub_u32\(last, first\)']),
+    ('wrapping_sub on sequences stays', 'call_read/src/lib.rt', 'first_from', [r'std::num::wrapping_sub_u32\(sequence, 1\)']),
+    ('Command letters', 'line_text/src/lib.rt', 'field_count', [r"match letter \{", r"b'n' => 3", r"b'i' \| b'e' \| b'd' \| b'q' => 2"]),
+    ('the units used are carried in the answer', 'call_retire/src/release_retired.rt', 'release_retired', [r'Answer::Released\(visited\.count as u32, visited\.units as u32\)']),
     ('belong to the window as its own constants', 'window/src/lib.rt', 'impl AdaptiveReceiverPacketWindow', [
         r'pub const PAGE_SLOTS: usize = 64;', r'pub const MAX_RETIRED_RELEASED_PER_VISIT: usize = 256;', r'pub fn new\(']),
-    ("A page's 64 cells are handed out as a part of the lent memory", 'pages/src/lib.rt', 'page_cells', [r'-> &\[u32\]', r'&cells\[from\.\.to\]']),
-    ("host forms update the caller's header directly", 'host/src/lib.rt', 'insert', [r'w: &mut AdaptiveReceiverPacketWindow', r'\*w = ']),
-    ("host forms update the caller's header directly", 'host/src/lib.rt', 'remove', [r'w: &mut AdaptiveReceiverPacketWindow', r'\*w = ']),
-    ("host forms update the caller's header directly", 'host/src/lib.rt', 'release_retired', [r'w: &mut AdaptiveReceiverPacketWindow', r'\*w = ']),
+    ("A page's 64 cells are handed out as a part of the lent memory", 'page_base/src/lib.rt', 'page_cells', [r'-> &\[u32\]', r'&cells\[from\.\.to\]']),
+    ("host forms update the caller's header directly", 'call_host/src/lib.rt', 'insert', [r'w: &mut AdaptiveReceiverPacketWindow', r'\*w = ']),
+    ("host forms update the caller's header directly", 'call_host/src/lib.rt', 'remove', [r'w: &mut AdaptiveReceiverPacketWindow', r'\*w = ']),
+    ("host forms update the caller's header directly", 'call_host/src/lib.rt', 'release_retired', [r'w: &mut AdaptiveReceiverPacketWindow', r'\*w = ']),
 ]
 
 

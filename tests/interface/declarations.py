@@ -15,7 +15,7 @@ RAW = ROOT / "bindings/rust/src/raw.rs"
 ANSWERS = ROOT / "bindings/rust/src/answers.rs"
 MEMORY = ROOT / "bindings/rust/src/memory.rs"
 LIBRARY = ROOT / "target/libpacket_window.a"
-EXPORTS = sorted(path for crate in ("exports", "audit_exports", "host_exports") for path in (ROOT / "crates" / crate / "src").glob("*.rt"))
+EXPORTS = sorted(path for crate in ("c_calls", "c_audit", "c_host") for path in (ROOT / "crates" / crate / "src").glob("*.rt"))
 WINDOW = ROOT / "crates/window/src/lib.rt"
 REFUSALS = ROOT / "crates/window/src/refusals.rt"
 

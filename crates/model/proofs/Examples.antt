@@ -17,7 +17,7 @@ use Rattle.model.specs.Positions.{Positions, positions, plain, drain, in
 use Rattle.model.specs.Window.{Window, decode, freshWindow, cellOf, iterStep}
 use Rattle.model.specs.Pages.{freeCell, promoted, nthSet, packed, insertPage, drainPage}
 use Rattle.model.specs.Steps.{noteNonempty, splitBlock, releasePage, nextRetired, releaseUnits, revive, removeSlots, retireInBlock, retireBlock, retireBlocks, retirePages, retireStretch, retireRange, retireAll, releasePages, insertStep, exchangeStep, removeStep, rangeStep, clearStep, clearBoundedStep, releaseStep, windowStep, windowDoes, Effect}
-use Rattle.model.proofs.Beginning.{new-window}
+use Rattle.model.proofs.NewLaws.{new-window}
 
 -- a line of output: answer, len, retired_held, promotions, demotions, dropped values
 record Line : Type 0 where

@@ -1,13 +1,15 @@
--- That demand 3 holds over positions, and of any head that refines them: sums, the parts of a call, each call, whole histories, heads.
-pub mod Sums
-pub mod Draining
-pub mod Releasing
-pub mod Units
-pub mod Sweeping
-pub mod Keeping
-pub mod Histories
-pub mod Carrying
-pub mod Refusing
-pub mod Strangers
-pub mod Beginning
+-- Demand 3 over positions, and of any head that refines them: sums (SumLaws), the parts of a call (DrainLaws, ReleaseLaws, UnitLaws,
+-- SweepLaws), each call (KeepLaws), whole histories (HistoryLaws), heads (HeadLaws); the order of refusals (RefusalLaws), stranger
+-- (StrangerLaws), `new` (NewLaws), and what is computed (Examples).
+pub mod StrangerLaws
+pub mod SumLaws
+pub mod DrainLaws
+pub mod ReleaseLaws
+pub mod UnitLaws
+pub mod SweepLaws
+pub mod KeepLaws
+pub mod HistoryLaws
+pub mod HeadLaws
+pub mod RefusalLaws
+pub mod NewLaws
 pub mod Examples

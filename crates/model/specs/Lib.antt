@@ -7,9 +7,9 @@ pub mod Demand3
 pub mod Window
 pub mod Pages
 pub mod Steps
-pub mod Strangers
 pub mod Sound
 pub mod Contract
 pub mod Heads
 pub mod Positions
 pub mod Refinement
+pub mod Strangers

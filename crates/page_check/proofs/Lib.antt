@@ -1,4 +1,6 @@
--- Laws over plain variables that the proofs cite.
-pub mod Cells
-pub mod Passing
-pub mod Pages
+-- Deciding (DecideLaws). For the proofs of this crate: one cell (CellLaws), the loop over the cells in use (CellLoopLaws), a page
+-- (PageLaws).
+pub mod DecideLaws
+pub mod CellLaws
+pub mod CellLoopLaws
+pub mod PageLaws

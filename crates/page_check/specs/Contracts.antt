@@ -7,8 +7,8 @@ use Prim.Native.Nat.{ℕ, _/_, _%_, _<_}
 use Rattle.words.specs.Word.{bitAt}
 use Rattle.window.specs.Memory.{capacity}
 use Rattle.model.specs.Sound.{SoundPage}
-use Rattle.pages.specs.declared.PageWords.{PageWords}
-use Rattle.pages.specs.Page.{page}
+use Rattle.page_base.specs.declared.PageWords.{PageWords}
+use Rattle.page_base.specs.Page.{page}
 
 -- r says whether A holds
 pub record Decides (A : Type 0) (r : Bool) : Type 0 where

@@ -1,3 +1,2 @@
--- Whether a page is sound: what the functions promise (Contracts), and laws on deciding (DecideLaws).
+-- Whether a page is sound: what the functions promise.
 pub mod Contracts
-pub mod DecideLaws

@@ -1,12 +1,12 @@
 // Whether one page is sound by itself: the part of `check` that looks at a page's words and its 64 cells.
-use pages::PageWords;
+use page_base::PageWords;
 use window::memory::PAGE_SLOTS;
 use window::memory::position;
 ghost use mathlib.Core.Path.{_≡_};
 ghost use Prim.Native.Nat.{_≤_};
 ghost use lib.ListN.{length};
 ghost use Rattle.window.specs.Memory.{capacity};
-ghost use Rattle.pages.specs.Page.{cells};
+ghost use Rattle.page_base.specs.Page.{cells};
 ghost use Rattle.page_check.specs.Contracts.{Decides, SoundCell, SoundCells, DecidesPage};
 
 // Whether cell `c`, which is in use and holds this sequence, may do so: "all of this page"; "sparse fills only the first N"; dense

@@ -5,8 +5,8 @@ use mathlib.Core.List.{List}
 use Prim.Native.Nat.{ℕ}
 use Rattle.words.specs.Word.{span}
 use Rattle.model.specs.Pages as model
-use Rattle.pages.specs.declared.PageWords.{PageWords}
-use Rattle.pages.specs.Page.{page, Placed}
+use Rattle.page_base.specs.declared.PageWords.{PageWords}
+use Rattle.page_base.specs.Page.{page, Placed}
 use Rattle.page_insert.specs.declared.Inserted.{Inserted}
 use Rattle.page_insert.specs.Insert.{insertedOf}
 

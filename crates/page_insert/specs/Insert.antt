@@ -7,7 +7,7 @@ use Rattle.words.specs.First.{firstFrom}
 use Rattle.words.specs.Word.{isSet}
 use Rattle.model.specs.Calls.{Answer, new, replaced, refused}
 use Rattle.model.specs.Pages as model
-use Rattle.pages.specs.Page.{page}
+use Rattle.page_base.specs.Page.{page}
 use Rattle.page_insert.specs.declared.InsertAnswer.{InsertAnswer}
 use Rattle.page_insert.specs.declared.InsertAnswer.the-variants.{New, Promoted, Replaced, Occupied, Unsound}
 use Rattle.page_insert.specs.declared.Inserted.{Inserted}

@@ -1,12 +1,12 @@
 // A value into a page. `sequences` and `values` are the page's 64 cells: a part of the lent memory, which begins at 64 × page.
-use pages::PageWords;
-use pages::find::slot_at;
+use page_base::PageWords;
+use page_base::find::slot_at;
 use window::memory::PAGE_SLOTS;
 ghost use mathlib.Core.Path.{_≡_};
 ghost use Prim.Native.Nat.{_<_, _≤_};
 ghost use lib.ListN.{length};
 ghost use Rattle.model.specs.Pages.{putCell};
-ghost use Rattle.pages.specs.Page.{page as pageOf};
+ghost use Rattle.page_base.specs.Page.{page as pageOf};
 ghost use Rattle.page_insert.specs.Insert.{spread as spreadOf, freeOf};
 ghost use Rattle.page_insert.specs.Contracts.{Promotes, Replaces, InsertsNew, Inserts};
 

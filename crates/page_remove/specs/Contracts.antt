@@ -7,8 +7,8 @@ use Prim.Native.Nat.{ℕ, _+_, _≤_}
 use lib.ListN.{length, take, drop}
 use Rattle.words.specs.Word.{isSet}
 use Rattle.model.specs.Pages.{drainPage, pageDrained}
-use Rattle.pages.specs.declared.PageWords.{PageWords}
-use Rattle.pages.specs.Page.{page, Placed}
+use Rattle.page_base.specs.declared.PageWords.{PageWords}
+use Rattle.page_base.specs.Page.{page, Placed}
 use Rattle.page_remove.specs.declared.Removed.{Removed}
 use Rattle.page_remove.specs.declared.drain.Drained.{Drained}
 use Rattle.page_remove.specs.Remove.{removedOf, removePage}

@@ -8,9 +8,9 @@ use Rattle.model.specs.Calls.{Answer}
 use Rattle.model.specs.Window.{Page, cellOf, standsAt}
 use Rattle.model.specs.Pages.{takeCell, nthSet, demotes, afterRemoval}
 use Rattle.model.specs.Steps.{finds}
-use Rattle.pages.specs.declared.PageWords.{PageWords}
-use Rattle.pages.specs.Page.{page}
-use Rattle.pages.specs.Contracts.{readAnswer, readOf}
+use Rattle.page_base.specs.declared.PageWords.{PageWords}
+use Rattle.page_base.specs.Page.{page}
+use Rattle.page_base.specs.Contracts.{readAnswer, readOf}
 use Rattle.page_remove.specs.declared.Settled.{Settled}
 use Rattle.page_remove.specs.declared.Removed.{Removed}
 

@@ -1,7 +1,7 @@
 // A page's lowest values into a return list, for release and range removal.
 use crate::take_cell;
-use pages::PageWords;
-use pages::find::slot_at;
+use page_base::PageWords;
+use page_base::find::slot_at;
 use window::memory::PAGE_SLOTS;
 ghost use Prim.Native.Nat.{_+_, _<_, _≤_};
 ghost use mathlib.Core.Path.{_≡_};

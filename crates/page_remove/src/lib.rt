@@ -2,16 +2,16 @@
 // 64 × page.
 pub mod drain;
 
-use pages::PageWords;
-use pages::find::Read;
-use pages::find::find;
+use page_base::PageWords;
+use page_base::find::Read;
+use page_base::find::find;
 use window::memory::PAGE_SLOTS;
 ghost use mathlib.Core.Path.{_≡_};
 ghost use Prim.Native.Nat.{_<_};
 ghost use lib.ListN.{length};
 ghost use Rattle.words.specs.Word.{count as countOf};
 ghost use Rattle.model.specs.Pages.{packed};
-ghost use Rattle.pages.specs.Page.{cells as cellsOf, page as pageOf};
+ghost use Rattle.page_base.specs.Page.{cells as cellsOf, page as pageOf};
 ghost use Rattle.page_remove.specs.Remove.{packedCells, takenWords, settledOf, settlePage};
 ghost use Rattle.page_remove.specs.Contracts.{Removes};
 

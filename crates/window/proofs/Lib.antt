@@ -1,3 +1,9 @@
--- Laws over plain variables that the proofs cite.
-pub mod Verdicts
-pub mod Lengths
+-- Laws on memory (MemoryLaws), rows of words (WordListLaws), refusals (RefusalLaws), `new` (NewLaws); a verdict's tag and the test of
+-- the lengths, for the proofs of this crate (VerdictLaws, LengthLaws); what is computed (Examples).
+pub mod MemoryLaws
+pub mod WordListLaws
+pub mod RefusalLaws
+pub mod NewLaws
+pub mod Examples
+pub mod VerdictLaws
+pub mod LengthLaws

@@ -6,11 +6,11 @@ use mathlib.Core.List.{List}
 use Prim.Native.Nat.{ℕ, _+_, _≤_, _<_}
 use lib.Dec.{leb, ltb}
 use lib.ListN.{length, take}
-use Rattle.text.specs.Lines.{Line, lineOf}
-use Rattle.text.specs.declared.Fields.{Fields}
+use Rattle.line_text.specs.Lines.{Line, lineOf}
+use Rattle.line_text.specs.declared.Fields.{Fields}
 use Rattle.window.specs.declared.AdaptiveReceiverPacketWindow.{AdaptiveReceiverPacketWindow}
-use Rattle.lines.specs.Output.{unknownBytes}
-use Rattle.lines.specs.Contracts.{PutsIf}
+use Rattle.line_output.specs.Output.{unknownBytes}
+use Rattle.line_output.specs.Contracts.{PutsIf}
 use Rattle.windowlines.specs.declared.answer.Answered.{Answered}
 use Rattle.windowlines.specs.declared.run.Program.{Program}
 

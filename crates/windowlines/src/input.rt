@@ -1,9 +1,9 @@
 // Standard input, a part at a time, and what a gathered line says.
-use text::Parsed;
-use text::parse;
+use line_text::Parsed;
+use line_text::parse;
 ghost use mathlib.Core.Path.{_≡_};
 ghost use Prim.Native.Nat.{_≤_};
-ghost use Rattle.text.specs.Contracts.{lineAnswer};
+ghost use Rattle.line_text.specs.Contracts.{lineAnswer};
 ghost use Rattle.windowlines.specs.Program.{gathered};
 
 // Reads once: how many bytes came; 0 at the end of the input or on an error.

@@ -1,6 +1,6 @@
 -- Each end of the test is a law of Cells. Assumes nothing.
 use native.Mathlib.Omega.{arith}
-use Rattle.page_check.proofs.Cells.{cell-elsewhere, cell-sparse, cell-dense}
+use Rattle.page_check.proofs.CellLaws.{cell-elsewhere, cell-sparse, cell-dense}
 use borrow.Author.Needs.{needs}
 use Rattle.page_check.proofs.cell_sound.Statement.{statement}
 use Rattle.page_check.proofs.cell_sound.Tie as tie

@@ -6,9 +6,9 @@ use lib.ListN.{getD}
 use borrow.Author.Tests.{not-true, not-false}
 use Rattle.words.specs.Word.{count}
 use Rattle.window.specs.Memory.{capacity}
-use Rattle.pages.specs.Page.{cells}
-use Rattle.page_check.specs.DecideLaws.{decides-no}
-use Rattle.page_check.proofs.Passing.{Next, next-of, rest-less, Passed, passed-begins, not-sound, named-twice, passed-turn, passed-ends}
+use Rattle.page_base.specs.Page.{cells}
+use Rattle.page_check.proofs.DecideLaws.{decides-no}
+use Rattle.page_check.proofs.CellLoopLaws.{Next, next-of, rest-less, Passed, passed-begins, not-sound, named-twice, passed-turn, passed-ends}
 use borrow.Author.Needs.{needs}
 use Rattle.page_check.proofs.cells_sound.Statement.{statement}
 use Rattle.page_check.proofs.cells_sound.Tie as tie

@@ -1,8 +1,8 @@
 -- Each `false` denies one clause of a sound page; the other two ends are laws of Pages. Assumes nothing.
 use mathlib.Core.Logic.{⊎-elim}
 use native.Mathlib.Omega.{arith}
-use Rattle.page_check.specs.DecideLaws.{decides-no}
-use Rattle.page_check.proofs.Pages.{none-decides, cells-decide}
+use Rattle.page_check.proofs.DecideLaws.{decides-no}
+use Rattle.page_check.proofs.PageLaws.{none-decides, cells-decide}
 use borrow.Author.Needs.{needs}
 use Rattle.page_check.proofs.page_sound.Statement.{statement}
 use Rattle.page_check.proofs.page_sound.Tie as tie

@@ -4,7 +4,7 @@ use native.Mathlib.Nat.{not-suc-le-zero}
 use native.Mathlib.Omega.{arith}
 use lib.ListN.{length, getD, length-set}
 use lib.Seq.{ext-getD}
-use Rattle.page_insert.proofs.Spreading.{same-more}
+use Rattle.page_insert.proofs.SpreadLaws.{same-more}
 use borrow.Author.Needs.{needs}
 use Rattle.page_insert.proofs.copied.Statement.{statement}
 use Rattle.page_insert.proofs.copied.Tie as tie

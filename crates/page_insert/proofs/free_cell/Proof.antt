@@ -1,6 +1,6 @@
 use mathlib.Core.Path.{_∙_}
 use native.Mathlib.Omega.{arith}
-use Rattle.page_insert.specs.FreeLaws.{free-code}
+use Rattle.page_insert.proofs.FreeLaws.{free-code}
 use borrow.Author.Needs.{needs}
 use Rattle.page_insert.proofs.free_cell.Statement.{statement}
 use Rattle.page_insert.proofs.free_cell.Tie as tie

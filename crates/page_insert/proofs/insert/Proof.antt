@@ -1,6 +1,6 @@
 use mathlib.Core.Path.{_∙_}
 use native.Mathlib.Omega.{arith}
-use Rattle.page_insert.specs.CaseLaws.{page-over, page-new}
+use Rattle.page_insert.proofs.CaseLaws.{page-over, page-new}
 use borrow.Author.Needs.{needs}
 use Rattle.page_insert.proofs.insert.Statement.{statement}
 use Rattle.page_insert.proofs.insert.Tie as tie
@@ -8,7 +8,7 @@ use Rattle.page_insert.proofs.insert.Reads as reads
 use Rattle.page_insert.proofs.insert.Lts as lts
 use Rattle.page_insert.proofs.insert_new.Reads as insert-new-reads
 use Rattle.page_insert.proofs.replace.Reads as replace-reads
-use Rattle.pages.proofs.find.slot_at.Reads as slot-at-reads
+use Rattle.page_base.proofs.find.slot_at.Reads as slot-at-reads
 
 -- src/lib.rt:191:16
 cast-slot : tie.Need-cast-slot

@@ -3,7 +3,7 @@ use Prim.Native.Nat.{_%_}
 use native.Mathlib.Omega.{arith}
 use Rattle.model.specs.Window.{Page}
 use Rattle.model.specs.Pages.{putCell}
-use Rattle.page_insert.specs.CaseLaws.{new-dense, new-sparse, new-promoted, some-free, first-cells}
+use Rattle.page_insert.proofs.CaseLaws.{new-dense, new-sparse, new-promoted, some-free, first-cells}
 use borrow.Author.Needs.{needs}
 use Rattle.page_insert.proofs.insert_new.Statement.{statement}
 use Rattle.page_insert.proofs.insert_new.Tie as tie

@@ -1,4 +1,4 @@
-use Rattle.page_insert.proofs.Spreading.{promoted-lists}
+use Rattle.page_insert.proofs.SpreadLaws.{promoted-lists}
 use borrow.Author.Needs.{needs}
 use Rattle.page_insert.proofs.promote.Statement.{statement}
 use Rattle.page_insert.proofs.promote.Tie as tie

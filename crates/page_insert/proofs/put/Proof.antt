@@ -1,4 +1,4 @@
-use Rattle.pages.specs.PartLaws.{cells-set}
+use Rattle.page_base.proofs.PartLaws.{cells-set}
 use borrow.Author.Needs.{needs}
 use Rattle.page_insert.proofs.put.Statement.{statement}
 use Rattle.page_insert.proofs.put.Tie as tie

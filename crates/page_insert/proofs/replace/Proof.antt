@@ -4,9 +4,9 @@ use Prim.Native.Nat.{ℕ}
 use lib.ListN.{set}
 use Rattle.model.specs.Calls.{replaced}
 use Rattle.model.specs.Pages.{inserted}
-use Rattle.pages.specs.Page.{page}
-use Rattle.pages.specs.PartLaws.{cell-in, page-set-value}
-use Rattle.page_insert.specs.CaseLaws.{over-same, over-other}
+use Rattle.page_base.specs.Page.{page}
+use Rattle.page_base.proofs.PartLaws.{cell-in, page-set-value}
+use Rattle.page_insert.proofs.CaseLaws.{over-same, over-other}
 use borrow.Author.Needs.{needs}
 use Rattle.page_insert.proofs.replace.Statement.{statement}
 use Rattle.page_insert.proofs.replace.Tie as tie

@@ -2,7 +2,7 @@ use mathlib.Core.Path.{ap, _∙_}
 use Prim.Native.Nat.{ℕ}
 use native.Mathlib.Omega.{arith}
 use Rattle.words.specs.Word.{span}
-use Rattle.words.specs.CountLaws.{count-le}
+use Rattle.words.proofs.CountLaws.{count-le}
 use Rattle.model.specs.Pages.{packed}
 use Rattle.page_remove.specs.Remove.{packedCells}
 use borrow.Author.Needs.{needs}

@@ -1,7 +1,7 @@
 use Prim.Native.Nat.{_<_}
 use native.Mathlib.Omega.{arith}
 use Rattle.words.specs.Word.{count}
-use Rattle.page_remove.proofs.Packing.{Packing, packing-begins, slot-lt, next-lt, packing-turn, packing-less, packing-ends}
+use Rattle.page_remove.proofs.PackLaws.{Packing, packing-begins, slot-lt, next-lt, packing-turn, packing-less, packing-ends}
 use borrow.Author.Needs.{needs}
 use Rattle.page_remove.proofs.pack.Statement.{statement}
 use Rattle.page_remove.proofs.pack.Tie as tie

@@ -1,12 +1,12 @@
 use mathlib.Core.Path.{_≡_, sym, ap, _∙_}
 use Prim.Native.Nat.{ℕ, _%_, _<_}
 use native.Mathlib.Omega.{arith}
-use Rattle.pages.specs.declared.PageWords.{PageWords}
-use Rattle.pages.specs.Page.{cells, page}
-use Rattle.pages.specs.PartLaws.{cell-in}
-use Rattle.pages.specs.ReadLaws.{with-cell}
+use Rattle.page_base.specs.declared.PageWords.{PageWords}
+use Rattle.page_base.specs.Page.{cells, page}
+use Rattle.page_base.proofs.PartLaws.{cell-in}
+use Rattle.page_base.proofs.ReadLaws.{with-cell}
 use Rattle.page_remove.specs.Remove.{settlePage}
-use Rattle.page_remove.proofs.Settling.{page-taken, remove-found, remove-absent}
+use Rattle.page_remove.proofs.SettleLaws.{page-taken, remove-found, remove-absent}
 use borrow.Author.Needs.{needs}
 use Rattle.page_remove.proofs.remove.Statement.{statement}
 use Rattle.page_remove.proofs.remove.Tie as tie
@@ -14,7 +14,7 @@ use Rattle.page_remove.proofs.remove.Reads as reads
 use Rattle.page_remove.proofs.remove.Lts as lts
 use Rattle.page_remove.proofs.settle.Reads as settle-reads
 use Rattle.page_remove.proofs.take_cell.Reads as take-cell-reads
-use Rattle.pages.proofs.find.find.Reads as find-reads
+use Rattle.page_base.proofs.find.find.Reads as find-reads
 
 -- src/lib.rt:121:16
 cast-slot : tie.Need-cast-slot

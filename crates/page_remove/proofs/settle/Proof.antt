@@ -2,10 +2,10 @@ use mathlib.Core.Path.{_≡_, _∙_}
 use mathlib.Core.Bool.{true}
 use Prim.Native.Nat.{ℕ, _<_}
 use native.Mathlib.Omega.{arith}
-use Rattle.words.specs.CountLaws.{count-zero}
+use Rattle.words.proofs.CountLaws.{count-zero}
 use Rattle.words.specs.Word.{count}
-use Rattle.pages.specs.Page.{page}
-use Rattle.page_remove.proofs.Settling.{settle-empty, settle-demoted, settle-full, settle-sparse}
+use Rattle.page_base.specs.Page.{page}
+use Rattle.page_remove.proofs.SettleLaws.{settle-empty, settle-demoted, settle-full, settle-sparse}
 use borrow.Author.Needs.{needs}
 use Rattle.page_remove.proofs.settle.Statement.{statement}
 use Rattle.page_remove.proofs.settle.Tie as tie

@@ -1,6 +1,6 @@
 -- `&` with the complement of place k's power of two clears bit k and no other (clear-code). Assumes nothing.
 use borrow.Author.Needs.{needs}
-use Rattle.words.specs.ChangeLaws.{one-shl, clear-code}
+use Rattle.words.proofs.ChangeLaws.{one-shl, clear-code}
 use Rattle.words.proofs.clear.Statement.{statement}
 use Rattle.words.proofs.clear.Tie as tie
 

@@ -1,5 +1,5 @@
 -- `count_ones` is the sum of the 64 bits (count-code). Assumes nothing.
-use Rattle.words.specs.CountLaws.{count-code, count-fits}
+use Rattle.words.proofs.CountLaws.{count-code, count-fits}
 use Rattle.words.proofs.count.Statement.{statement}
 use Rattle.words.proofs.count.Tie as tie
 

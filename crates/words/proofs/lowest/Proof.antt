@@ -1,6 +1,6 @@
 -- Under the mask of the bits from k up, `trailing_zeros` is the lowest set bit at or above k (lowest-code). Assumes nothing.
 use borrow.Author.Needs.{needs}
-use Rattle.words.specs.LowestLaws.{lowest-code, trailing-fits}
+use Rattle.words.proofs.LowestLaws.{lowest-code, trailing-fits}
 use Rattle.words.proofs.lowest.Statement.{statement}
 use Rattle.words.proofs.lowest.Tie as tie
 

@@ -1,6 +1,6 @@
 -- `|` with the power of two of place k sets bit k and no other (set-code). Assumes nothing.
 use borrow.Author.Needs.{needs}
-use Rattle.words.specs.ChangeLaws.{one-shl, set-code}
+use Rattle.words.proofs.ChangeLaws.{one-shl, set-code}
 use Rattle.words.proofs.set.Statement.{statement}
 use Rattle.words.proofs.set.Tie as tie
 

@@ -1,6 +1,6 @@
 -- As many set bits as the span has, shifted to its start (span-code). Assumes nothing.
 use borrow.Author.Needs.{needs}
-use Rattle.words.specs.SpanLaws.{span-code}
+use Rattle.words.proofs.SpanLaws.{span-code}
 use Rattle.words.proofs.span.Statement.{statement}
 use Rattle.words.proofs.span.Tie as tie
 

@@ -1,15 +1,15 @@
 use Prim.Native.Nat.{_-_, _<_}
 use native.Mathlib.Omega.{arith}
 use lib.Bits.{and-le-r}
-use Rattle.words.specs.LowestLaws.{lowest-some}
-use Rattle.page_remove.proofs.Draining.{Draining, draining-begins, draining-turn, draining-ends, draining-empty, draining-unsound}
+use Rattle.words.proofs.LowestLaws.{lowest-some}
+use Rattle.page_remove.proofs.DrainLoopLaws.{Draining, draining-begins, draining-turn, draining-ends, draining-empty, draining-unsound}
 use borrow.Author.Needs.{needs}
 use Rattle.page_remove.proofs.drain.drain.Statement.{statement}
 use Rattle.page_remove.proofs.drain.drain.Tie as tie
 use Rattle.page_remove.proofs.drain.drain.Reads as reads
 use Rattle.page_remove.proofs.drain.drain.Lts as lts
 use Rattle.page_remove.proofs.take_cell.Reads as take-cell-reads
-use Rattle.pages.proofs.find.slot_at.Reads as slot-at-reads
+use Rattle.page_base.proofs.find.slot_at.Reads as slot-at-reads
 use Rattle.words.proofs.lowest.Reads as lowest-reads
 
 abbrev Inv-loop : tie.InvT-loop

@@ -7,11 +7,11 @@ use lib.ListN.{length}
 use borrow.Author.Needs.{needs}
 use borrow.Author.Tests.{not-true, not-false}
 use Rattle.window.specs.Refusals.{limits, longEnough}
-use Rattle.window.specs.RefusalLaws.{limits-within, long-enough-is}
-use Rattle.window.specs.MemoryLaws.{page-count-le}
+use Rattle.window.proofs.RefusalLaws.{limits-within, long-enough-is}
+use Rattle.window.proofs.MemoryLaws.{page-count-le}
 use Rattle.window.specs.New.{cleared}
-use Rattle.window.specs.NewLaws.{new-limits, new-short, new-made}
-use Rattle.window.proofs.Verdicts.{passes}
+use Rattle.window.proofs.NewLaws.{new-limits, new-short, new-made}
+use Rattle.window.proofs.VerdictLaws.{passes}
 use Rattle.window.proofs.AdaptiveReceiverPacketWindow.new.Statement.{statement}
 use Rattle.window.proofs.AdaptiveReceiverPacketWindow.new.Tie as tie
 

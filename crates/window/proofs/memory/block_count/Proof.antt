@@ -1,7 +1,7 @@
 -- There are at most 1024 pages, so the sum fits. Assumes nothing.
 use native.Mathlib.Omega.{arith}
 use borrow.Author.Needs.{needs}
-use Rattle.window.specs.MemoryLaws.{page-count-le}
+use Rattle.window.proofs.MemoryLaws.{page-count-le}
 use Rattle.window.proofs.memory.block_count.Statement.{statement}
 use Rattle.window.proofs.memory.block_count.Tie as tie
 

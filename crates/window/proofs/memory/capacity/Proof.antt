@@ -1,7 +1,7 @@
 -- Up to 64 the capacity is 64; above, the leading zeros of window_size - 1 give the exponent (capacity-code). Assumes nothing.
 use borrow.Author.Needs.{needs}
 use lib.Count.{leading-le}
-use Rattle.window.specs.MemoryLaws.{capacity-small, capacity-code}
+use Rattle.window.proofs.MemoryLaws.{capacity-small, capacity-code}
 use Rattle.window.proofs.memory.capacity.Statement.{statement}
 use Rattle.window.proofs.memory.capacity.Tie as tie
 

@@ -1,7 +1,7 @@
 -- The capacity is a power of two, so its predecessor masks the remainder (position-code). Assumes nothing.
 use native.Mathlib.Omega.{arith}
 use borrow.Author.Needs.{needs}
-use Rattle.window.specs.MemoryLaws.{capacity-ge, position-code}
+use Rattle.window.proofs.MemoryLaws.{capacity-ge, position-code}
 use Rattle.window.proofs.memory.position.Statement.{statement}
 use Rattle.window.proofs.memory.position.Tie as tie
 

@@ -3,8 +3,8 @@ use mathlib.Core.Path.{_≡_, sym, _∙_}
 use borrow.Author.Needs.{needs}
 use borrow.Author.Tests.{ne-eqb}
 use Rattle.window.specs.Refusals.{limits, fits}
-use Rattle.window.specs.RefusalLaws.{refuses, limits-within}
-use Rattle.window.proofs.Verdicts.{passes}
+use Rattle.window.proofs.RefusalLaws.{refuses, limits-within}
+use Rattle.window.proofs.VerdictLaws.{passes}
 use Rattle.window.proofs.refusals.fits.Statement.{statement}
 use Rattle.window.proofs.refusals.fits.Tie as tie
 

@@ -1,8 +1,8 @@
 -- The tests come in the definition's order; each end is a law of Lengths. Assumes nothing.
 use native.Mathlib.Omega.{arith}
 use borrow.Author.Needs.{needs}
-use Rattle.window.specs.MemoryLaws.{page-count-le, block-count-le}
-use Rattle.window.proofs.Lengths.{sequences-short, values-short, pages-short, blocks-decide}
+use Rattle.window.proofs.MemoryLaws.{page-count-le, block-count-le}
+use Rattle.window.proofs.LengthLaws.{sequences-short, values-short, pages-short, blocks-decide}
 use Rattle.window.proofs.refusals.long_enough.Statement.{statement}
 use Rattle.window.proofs.refusals.long_enough.Tie as tie
 

@@ -1,0 +1,37 @@
+// stranger and check in C's calling convention, as the calls of `exports`. They are compiled apart, so that get, which stranger uses,
+// keeps its one caller there.
+use c_calls::NumberedStep;
+use c_calls::in_numbers;
+use call_check::check;
+use call_read::stranger::stranger;
+use window::AdaptiveReceiverPacketWindow;
+ghost use Rattle.model.specs.Calls.{stranger as strangerOf, check as checkOf, ask};
+ghost use Rattle.c_calls.specs.Numbers.{NumbersMeetBy};
+
+#[no_mangle]
+pub extern "C" fn packet_window_stranger(
+    w: AdaptiveReceiverPacketWindow,
+    sequences: &[u32],
+    values: &[u32],
+    pages: &[u64],
+    blocks: &[u64],
+    first: u32,
+    last: u32,
+) -> NumberedStep
+    ensures { λ r. ⌜ NumbersMeetBy (ask (strangerOf first last)) w sequences values pages blocks r ⌝ }
+{
+    in_numbers(stranger(w, sequences, values, pages, blocks, first, last))
+}
+
+#[no_mangle]
+pub extern "C" fn packet_window_check(
+    w: AdaptiveReceiverPacketWindow,
+    sequences: &[u32],
+    values: &[u32],
+    pages: &[u64],
+    blocks: &[u64],
+) -> NumberedStep
+    ensures { λ r. ⌜ NumbersMeetBy (ask checkOf) w sequences values pages blocks r ⌝ }
+{
+    in_numbers(check(w, sequences, values, pages, blocks))
+}

@@ -1,0 +1,2 @@
+-- What a call meets, it meets in numbers.
+pub mod NumberLaws

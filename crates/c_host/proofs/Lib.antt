@@ -1,0 +1,2 @@
+-- What a call with a lent header meets, it meets in numbers.
+pub mod OutcomeLaws

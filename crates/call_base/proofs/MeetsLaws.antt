@@ -1,0 +1,213 @@
+-- How a call is shown to meet the contract of every call: a refusal for its header, lists and arguments, as `admits` gives it, or else
+-- what it does once it is admitted. Assumes nothing.
+use mathlib.Core.Path.{_≡_, refl, sym, ap, _∙_, subst}
+use mathlib.Core.Bool.{Bool, true, false, true≢false, _&&_}
+use mathlib.Core.List.{List, []}
+use Prim.Native.Nat.{ℕ, zero, suc, _+_, _≤_}
+use native.Mathlib.Omega.{arith}
+use denote.Enum.Declared.{tagOf}
+use lib.Dec.{leb}
+use lib.ListN.{length, drop}
+use borrow.Author.Tests.{leb-true}
+use Rattle.window.specs.declared.answers.Answer.{Answer}
+use Rattle.window.specs.declared.answers.Step.{Step}
+use Rattle.window.specs.declared.refusals.Refusal.{Refusal}
+use Rattle.window.specs.declared.refusals.Verdict.{Verdict}
+use Rattle.window.specs.declared.refusals.Verdict.the-variants.{Refuse}
+use Rattle.window.specs.Refusals.{refusalNumber, verdictNumber, fitsWithList, Fits}
+use Rattle.window.proofs.RefusalLaws.{refuses, fits-is}
+use Rattle.window.proofs.refusals.Verdict as verdict
+use Rattle.window.proofs.VerdictLaws.{passes}
+use Rattle.model.specs.Calls as model
+use Rattle.model.specs.Calls.{Query, Call, ask, refused}
+use Rattle.model.specs.Roles.{askedOf, roleOf}
+use Rattle.model.specs.Table.{first, refusedFor, hasPlaces, argumentRefusal}
+use Rattle.model.specs.Window.{Window}
+use Rattle.model.specs.Steps.{Effect, unlessRefused, knownBy, windowAnswer, windowDoes, windowStep}
+use Rattle.model.specs.Sound.{Sound}
+use Rattle.model.specs.Contract.{State, windowOf, Left, lengthsFit, refusal, Unaltered, DoesAs, Does, Meets, SamePast, SameLengths}
+use Rattle.page_base.proofs.DecodeLaws.{header-at}
+use Rattle.page_remove.proofs.WroteLaws.{stretch-length}
+use Rattle.call_base.specs.Answers.{answerOf, replied, refusedBy, leftOf}
+use Rattle.call_base.specs.Admits.{admission}
+use Rattle.call_base.specs.Contracts.{Admitted, Tells, Fills}
+
+-- ---- the contract
+
+-- nothing altered, nothing returned
+abbrev pub leaves : State → List ℕ → model.Answer → Left
+leaves u l a = record { answer = a; count = 0; state = u; list = l }
+
+unaltered : (u : State) (l : List ℕ) (a : model.Answer) → Unaltered u l (leaves u l a)
+unaltered u l a = record { state = refl; list = refl; count = refl }
+
+same-past : (u : State) → SamePast (u .header .«window_size») (u .memory) (u .memory)
+same-past u = record { sequences = refl; values = refl; pages = refl; blocks = refl }
+
+same-lengths : (u : State) → SameLengths (u .memory) (u .memory)
+same-lengths u = record { sequences = refl; values = refl; pages = refl; blocks = refl }
+
+-- a refusal for arguments
+refused-meets : (c : Call) (u : State) (l : List ℕ) (k : ℕ) → refusal u c ≡ k → (k ≡ 0 → ⊥) → Meets c u l (leaves u l (refused k))
+refused-meets c u l k e n = record {
+  refuses = λ h. (ap refused (sym e), unaltered u l (refused k));
+  sound = λ z ok. absurd (n (sym e ∙ z));
+  occupied = λ z ok a. absurd (n (sym e ∙ z));
+  none-with-4 = λ a. refl;
+  unsound = λ q z ok. absurd (n (sym e ∙ z));
+  reads = λ q. unaltered u l (refused k);
+  past-list = refl;
+  long-list = refl;
+  count-fits = omega arith;
+  past-memory = same-past u;
+  lengths = same-lengths u;
+}
+
+-- with no refusal for arguments the whole step is what the call does
+tested : (k : ℕ) (taken : Bool) (rest : ℕ) → (k ≡ 0 → ⊥) → first k taken rest ≡ 0 → (taken ≡ true) × (rest ≡ 0)
+tested k true rest n e = (refl, e)
+tested k false rest n e = absurd (n e)
+
+unless-none : (k : ℕ) (w : Window) (e : Effect) → k ≡ 0 → unlessRefused k w e ≡ e
+unless-none zero w e z = refl
+unless-none (suc k) w e z = absurd (omega arith)
+
+step-does : (c : Call) (u : State) → refusal u c ≡ 0 → windowStep (windowOf u) c ≡ windowDoes (windowOf u) c
+step-does c u z =
+    unless-none (argumentRefusal (knownBy (windowOf u .header)) c) (windowOf u) (windowDoes (windowOf u) c)
+    (rw (header-at (u .header) (u .memory)) (tested 6 (lengthsFit u) _ (λ k. omega arith) z .1))
+
+does-as : (c : Call) (u : State) (r : Left) → refusal u c ≡ 0 → DoesAs windowDoes Sound c (windowOf u) r → Does c (windowOf u) r
+does-as c u r z d =
+    let e = step-does c u z in
+    record {
+      answer = d .answer ∙ ap (λ (x : Effect). x .answer) (sym e);
+      window = d .window ∙ ap (λ (x : Effect). x .after) (sym e);
+      returned = d .returned ∙ ap (λ (x : Effect). x .returned) (sym e);
+      count = d .count ∙ ap (λ (x : Effect). length (x .returned)) (sym e);
+    }
+
+-- a query that is not refused, and what it answers
+read-meets : (q : Query) (u : State) (a : model.Answer) → (askedOf q .checks ≡ true → (Sound (windowOf u) → ⊥) → a ≡ refused 7) → refusal u (ask q) ≡ 0
+    → (Sound (windowOf u) → a ≡ windowAnswer (windowOf u) q) → Meets (ask q) u [] (leaves u [] a)
+unfolding windowDoes
+read-meets q u a unsound e is = record {
+  refuses = λ h. absurd (h e);
+  sound = λ z ok. does-as (ask q) u (leaves u [] a) e (record { answer = is ok; window = refl; returned = refl; count = refl });
+  occupied = λ z ok b. unaltered u [] a;
+  none-with-4 = λ b. refl;
+  unsound = λ k z not-sound. unsound k not-sound;
+  reads = λ k. unaltered u [] a;
+  past-list = refl;
+  long-list = refl;
+  count-fits = omega arith;
+  past-memory = same-past u;
+  lengths = same-lengths u;
+}
+
+write-meets : (c : Call) (u : State) (l : List ℕ) (r : Left) → roleOf c .checks ≡ false → refusal u c ≡ 0 → Admitted c u l r → Meets c u l r
+write-meets c u l r n e t = record {
+  refuses = λ h. absurd (h e);
+  sound = λ z ok. does-as c u r e (t .sound ok);
+  occupied = λ z ok a. t .occupied ok a;
+  none-with-4 = t .none-with-4;
+  unsound = λ q z ok. absurd (true≢false (sym q ∙ n));
+  reads = λ q. absurd (true≢false (sym q ∙ n));
+  past-list = t .past-list;
+  long-list = t .long-list;
+  count-fits = t .count-fits;
+  past-memory = t .past-memory;
+  lengths = t .lengths;
+}
+
+-- ---- calls that fill a return list
+
+pub fills-admitted : (step : Window → Effect) (c : Call) (u : State) (l : List ℕ) (r : Left) → 384 ≤ length l → step (windowOf u) ≡ windowDoes (windowOf u) c → Fills step u l r → Admitted c u l r
+fills-admitted step c u l r long is t =
+    let full = stretch-length 0 (r .count) (r .list) (omega (arith, t .few, long, t .wrote .long)) in
+    record {
+      sound = λ ok. record {
+        answer = ap (λ (x : Effect). x .answer) (t .gives ok ∙ is);
+        window = ap (λ (x : Effect). x .after) (t .gives ok ∙ is);
+        returned = ap (λ (x : Effect). x .returned) (t .gives ok ∙ is);
+        count = sym full ∙ ap (λ (x : Effect). length (x .returned)) (t .gives ok ∙ is);
+      };
+      occupied = λ ok q. absurd (t .taken q);
+      none-with-4 = λ q. absurd (t .taken q);
+      past-list =
+          let z : 0 + r .count ≡ r .count = omega arith in
+          ap (λ (x : ℕ). drop x (r .list)) (sym z) ∙ t .wrote .past ∙ ap (λ (x : ℕ). drop x l) z;
+      long-list = t .wrote .long;
+      count-fits = omega (arith, t .few, long);
+      past-memory = t .past;
+      lengths = t .lengths;
+    }
+
+-- ---- what `admits` says
+
+both-6 : (a b : Bool) (rest : ℕ) → first 6 (a && b) rest ≡ first 6 b (first 6 a rest)
+both-6 true true rest = refl
+both-6 true false rest = refl
+both-6 false true rest = refl
+both-6 false false rest = refl
+
+-- t is the verdict on call c in state u, with `places` in its return list
+module _ (c : Call) (u : State) (places : ℕ) (listed : hasPlaces (roleOf c .listed) ≡ leb 384 places) (t : Verdict)
+    (test : verdictNumber t ≡ admission (u .header) (length (u .memory .sequences)) (length (u .memory .values)) (length (u .memory .pages)) (length (u .memory .blocks)) places (roleOf c .arguments)) where
+  is-refusal : verdictNumber t ≡ refusal u c
+  unfolding fitsWithList
+  is-refusal =
+      test ∙ both-6 (leb 384 places) (lengthsFit u) (refusedFor (knownBy (u .header)) (roleOf c .arguments))
+      ∙ ap (λ (b : Bool). first 6 (lengthsFit u) (first 6 b (refusedFor (knownBy (u .header)) (roleOf c .arguments)))) (sym listed)
+
+  -- it refuses
+  pub refusal-meets : (l : List ℕ) (why : Refusal) (r : Step) → t ≡ Refuse why → r ≡ refusedBy (u .header) why → Meets c u l (leftOf r (u .memory) l)
+  refusal-meets l why r e q =
+      subst (λ (x : Step). Meets c u l (leftOf x (u .memory) l)) (sym q)
+      (refused-meets c u l (refusalNumber why) (sym is-refusal ∙ ap verdictNumber e) (refuses (Refuse why) why refl))
+
+  -- it passes
+  module _ (pass : tagOf verdict.the-type t ≡ 0) where
+    none-applies : refusal u c ≡ 0
+    none-applies = sym is-refusal ∙ passes t pass
+
+    -- header and lists fit, the return list has 384 places, and the arguments are taken
+    pub admitted-fits : Fits (u .header) (length (u .memory .sequences)) (length (u .memory .values)) (length (u .memory .pages)) (length (u .memory .blocks))
+    admitted-fits = fits-is _ _ _ _ _ (tested 6 (lengthsFit u) _ (λ k. omega arith) none-applies .0)
+
+    arguments-taken : (hasPlaces (roleOf c .listed) ≡ true) × (refusedFor (knownBy (u .header)) (roleOf c .arguments) ≡ 0)
+    arguments-taken = tested 6 (hasPlaces (roleOf c .listed)) _ (λ k. omega arith) (tested 6 (lengthsFit u) _ (λ k. omega arith) none-applies .1)
+
+    pub admitted-places : 384 ≤ places
+    admitted-places = leb-true 384 places (sym listed ∙ arguments-taken .0)
+
+    pub admitted-arguments : refusedFor (knownBy (u .header)) (roleOf c .arguments) ≡ 0
+    admitted-arguments = arguments-taken .1
+
+    pub admitted-meets : (l : List ℕ) (r : Left) → roleOf c .checks ≡ false → Admitted c u l r → Meets c u l r
+    admitted-meets l r other a = write-meets c u l r other none-applies a
+
+    -- a call that fills its return list
+    pub filled-meets : (l : List ℕ) (r : Left) → roleOf c .checks ≡ false → places ≡ length l
+        → (step : Window → Effect) → step (windowOf u) ≡ windowDoes (windowOf u) c → Fills step u l r → Meets c u l r
+    filled-meets l r other long step is t = admitted-meets l r other (fills-admitted step c u l r (omega (arith, admitted-places)) is t)
+
+-- ---- queries
+
+module _ (q : Query) (u : State) (t : Verdict)
+    (test : verdictNumber t ≡ admission (u .header) (length (u .memory .sequences)) (length (u .memory .values)) (length (u .memory .pages)) (length (u .memory .blocks)) 384 (askedOf q .arguments)) where
+  pub asked-refusal : (why : Refusal) (r : Step) → t ≡ Refuse why → r ≡ refusedBy (u .header) why → Meets (ask q) u [] (leftOf r (u .memory) [])
+  asked-refusal = refusal-meets (ask q) u 384 refl t test []
+
+  module _ (pass : tagOf verdict.the-type t ≡ 0) where
+    pub asked-fits : Fits (u .header) (length (u .memory .sequences)) (length (u .memory .values)) (length (u .memory .pages)) (length (u .memory .blocks))
+    asked-fits = admitted-fits (ask q) u 384 refl t test pass
+
+    pub asked-arguments : refusedFor (knownBy (u .header)) (askedOf q .arguments) ≡ 0
+    asked-arguments = admitted-arguments (ask q) u 384 refl t test pass
+
+    pub asked-meets : (a : Answer) (r : Step) → r ≡ replied (u .header) a → (askedOf q .checks ≡ true → (Sound (windowOf u) → ⊥) → answerOf a ≡ refused 7)
+        → Tells q u a → Meets (ask q) u [] (leftOf r (u .memory) [])
+    asked-meets a r e unsound tells =
+        subst (λ (x : Step). Meets (ask q) u [] (leftOf x (u .memory) [])) (sym e)
+        (read-meets q u (answerOf a) unsound (none-applies (ask q) u 384 refl t test pass) tells)

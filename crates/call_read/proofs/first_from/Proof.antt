@@ -1,0 +1,72 @@
+-- Refused as admits says, or else what find_round finds for the sequence before (from-is). Assumes nothing.
+use mathlib.Core.Path.{_∙_}
+use mathlib.Core.Bool.{false≢true}
+use native.Mathlib.Omega.{arith}
+use denote.Ref.{now}
+use borrow.Author.Needs.{needs}
+use Rattle.window.specs.Memory.{memory}
+use Rattle.window.specs.Lent.{ListsFit}
+use Rattle.model.specs.Calls.{first-from}
+use Rattle.model.specs.Contract.{State}
+use Rattle.call_base.specs.Answers.{stateOf}
+use Rattle.call_base.proofs.MeetsLaws.{asked-refusal, asked-fits, asked-meets}
+use Rattle.call_read.proofs.RoundLaws.{from-is}
+use Rattle.call_read.proofs.first_from.Statement.{statement}
+use Rattle.call_read.proofs.first_from.Tie as tie
+
+admits-requires : tie.Need-admits-requires
+admits-requires c κs = search needs
+
+enum-known-verdict : tie.Need-enum-known-verdict
+enum-known-verdict c = search needs
+
+refuse-requires : tie.Need-refuse-requires
+refuse-requires c κs = search needs
+
+-- the state that the call finds
+abbrev found : tie.After-admits → State
+found a = let s = a .before .before .before .before .before .args in stateOf (s .w) (memory (now (s .sequences)) (now (s .values)) (now (s .pages)) (now (s .blocks)))
+
+returns : tie.Need-returns
+returns c =
+    let a : tie.After-admits = c .before .before .before .before in
+    let s = a .before .before .before .before .before .args in
+    asked-refusal (first-from (s .sequence)) (found a) (a .admits .result) (a .admits .ensures) _ _ (c .before .before .verdict .given .1) (c .refuse .ensures)
+
+enum-told : tie.Need-enum-told
+enum-told c = search needs
+
+-- past the refusals
+fit : (m : tie.At-match-keys2) → let s = m .before .before .before .before .before .before .args in ListsFit (s .w) (s .sequences) (s .values) (s .pages) (s .blocks)
+fit m = let s = m .before .before .before .before .before .before .args in asked-fits (first-from (s .sequence)) (found (m .before)) (m .before .admits .result) (m .before .admits .ensures) (m .match .keys2)
+
+wrapping-sub-u32-requires : tie.Need-wrapping-sub-u32-requires
+wrapping-sub-u32-requires c κs = search needs
+
+find-round-requires : tie.Need-find-round-requires
+find-round-requires c κs = let f = fit (c .before .before) in ((f .within .size-high, omega (arith, f .within .n-high)), (f .long .sequences-long, f .long .pages-long, f .long .blocks-long))
+
+reply-requires : tie.Need-reply-requires
+reply-requires c κs = search needs
+
+returns-2 : tie.Need-returns-2
+returns-2 c =
+    let m : tie.At-match-keys2 = c .before .before .before .before in
+    let s = m .before .before .before .before .before .before .args in
+    asked-meets (first-from (s .sequence)) (found (m .before)) (m .before .admits .result) (m .before .admits .ensures) (m .match .keys2) _ _ (c .reply .ensures) (λ q. absurd (false≢true q))
+    (λ ok. c .before .find-round .ensures .gives (now (s .values)) ok
+    ∙ from-is (s .w) (memory (now (s .sequences)) (now (s .values)) (now (s .pages)) (now (s .blocks))) (s .sequence) (c .before .before .wrapping-sub-u32 .result) (c .before .before .wrapping-sub-u32 .ensures))
+
+pub first-from-spec : {M : Type 1} → statement M
+first-from-spec =
+    tie.close
+    (tie.spec
+    admits-requires
+    enum-known-verdict
+    refuse-requires
+    returns
+    enum-told
+    wrapping-sub-u32-requires
+    find-round-requires
+    reply-requires
+    returns-2)

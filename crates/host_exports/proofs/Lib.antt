@@ -1,2 +1,0 @@
--- Laws over plain variables that the proofs cite.
-pub mod Carrying

@@ -1,0 +1,2 @@
+-- The window seen from its positions.
+pub mod Seen

@@ -1,0 +1,7 @@
+-- For the proofs of this crate: intervals of numbers (IntervalLaws), a field's digits (FieldLaws), a line's parts (LineLaws), the loop
+-- over a line's fields (LoopLaws), bytes put and the digits of a number (PrintLaws).
+pub mod IntervalLaws
+pub mod FieldLaws
+pub mod LineLaws
+pub mod LoopLaws
+pub mod PrintLaws

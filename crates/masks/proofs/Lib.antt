@@ -1,3 +1,0 @@
--- Laws that only the proofs of this crate cite.
-pub mod Changing
-pub mod Marking

@@ -1,4 +1,0 @@
--- Laws over plain variables that the proofs cite.
-pub mod Taking
-pub mod Spanning
-pub mod Ranging

@@ -1,0 +1,2 @@
+-- Releases over several pages: what the functions promise.
+pub mod Contracts

@@ -1,3 +1,0 @@
--- Laws over plain variables that the proofs cite.
-pub mod Releasing
-pub mod Reviving

@@ -1,4 +1,0 @@
--- Laws that only the proofs of this crate cite.
-pub mod Selecting
-pub mod Searching
-pub mod Walking

@@ -1,7 +1,0 @@
--- Laws for the proofs of this crate: intervals of numbers (Interval), a field's digits (FieldLaws), a line's parts (LineLaws), the loop over
--- a line's fields (LoopLaws), bytes put and the digits of a number (PrintLaws).
-pub mod Interval
-pub mod FieldLaws
-pub mod LineLaws
-pub mod LoopLaws
-pub mod PrintLaws

@@ -1,3 +1,0 @@
--- Releases over several pages: what the functions promise (Contracts), and laws for callers (ReleasedLaws).
-pub mod Contracts
-pub mod ReleasedLaws
