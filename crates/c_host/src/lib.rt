@@ -1,5 +1,5 @@
-// The host forms in C's calling convention: the header's start is passed, and it is updated in place. `rt staticlib host_exports` makes
-// the library.
+// The host forms in C's calling convention: the header's start is passed, and it is updated in place. `./library` puts them
+// into the library.
 use c_calls::NumberedAnswer;
 use c_calls::numbers;
 use window::AdaptiveReceiverPacketWindow;
