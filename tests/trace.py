@@ -136,7 +136,8 @@ class Repository:
         self.words = {}
         crates = open(os.path.join(root, 'crates.txt'), encoding='utf-8').read()
         self.crates = set(re.findall(r'^(\w+):', crates, re.MULTILINE))
-        self.everywhere = [path for top in SEARCHED for path in self.files(top)]
+        # all but this file, which has wrong names for its own test
+        self.everywhere = [path for top in SEARCHED for path in self.files(top) if path != 'tests/trace.py']
 
     def files(self, path):
         """The files at or below a path."""
