@@ -11,10 +11,10 @@ What a row cites:
   or from docs/; a file without a folder ('Table.antt') stands in the folder of
   the file named before it.
 - A crate in brackets must be listed in crates.txt.
-- A name of code (with an underscore, a capital inside, a dot, or a hyphen, or
-  after 'law', 'theorem', 'edit' and the like) must stand in the files and crates
-  of the brackets that follow it, or, where none follow, in some crate, test or
-  interface; an edit is named by its file.
+- A name of code (a word with an underscore, a capital inside, a dot or a hyphen)
+  must stand in the files and crates of the brackets that follow it, or, where
+  none follow, in some crate, test or interface; an edit and a recorded file are
+  named by their file.
 - A row that is open cites nothing but its request.
 
 How a paper is split:
@@ -175,15 +175,12 @@ SEARCHED = ('crates', 'tests', 'include', 'bindings', 'oracle', 'examples', 'tes
 WORD = re.compile(r"[^\W\d][\w′-]*")
 PATH = re.compile(r'(?<![\w./])(?:\.ci/run|\./\w+|[\w-]+(?:/[\w.-]+)+|\w[\w-]*\.(?:antt|rt|md|py|rs|c|h|svg|txt)|NOTICE|README)(?![\w/])')
 CODE = re.compile(r"(?<![\w./'\"-])(?:[A-Za-z]\w*(?:(?:\.|::|-|_)[A-Za-z]\w*)+(?:-\d)?|[a-z]+[A-Z]\w*|[A-Z][a-z]+[A-Z]\w*)(?![\w/-])")
-NAMED = re.compile(r'\b(?:law|laws|theorem|theorems|edit|edits|definition|definitions|record|example|examples)((?:,? (?:and )?[^\W\d][\w.′-]*(?=[,;. ()]|$))+)')
-# words that look like names of code and are none
-PROSE = set('clear_bounded\'s A_B'.split())
 
 
 def names_of(text):
     """The names of code in a piece of a cell."""
     text = re.sub(r"'[^']*'(?!\w)", '', text)
-    return [name for name in CODE.findall(PATH.sub(' ', text)) if name not in PROSE]
+    return CODE.findall(PATH.sub(' ', text))
 
 
 def faults_of_cell(repository, at, cell):
