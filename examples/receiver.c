@@ -169,6 +169,8 @@ int main(void)
 {
     uint32_t i, visits;
 
+    if (packet_window_version() != PACKET_WINDOW_VERSION)
+        fail("the library is of another version than the header:", packet_window_version());
     expect(keep(packet_window_new(LISTS, WINDOW_SIZE, SPARSE_CELLS, DEMOTE_AT)), PACKET_WINDOW_DONE);
 
     for (i = 0; i < PACKETS; i++) {

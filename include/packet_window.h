@@ -1,6 +1,8 @@
 /*
  * The adaptive receiver packet window: the C interface of libpacket_window.a, for the System V ABI on x86-64. C99 or C++11.
  *
+ * VERSION. Before the first call, see that packet_window_version() is PACKET_WINDOW_VERSION.
+ *
  * The window holds packets by sequence number. A value is a 32-bit number of the caller's choice, here the number of a packet store.
  * A sequence's position is its remainder by the capacity; at most one value is live at a position.
  *
@@ -63,6 +65,17 @@
 #ifdef __cplusplus
 extern "C" {
 #endif
+
+/* ---- version */
+
+/* 10000 * major + 100 * minor + patch: 0.1.0. CHANGELOG.md says what each version changed. */
+#define PACKET_WINDOW_VERSION 100u
+
+/*
+ * The version of the library that is linked. Compare it with PACKET_WINDOW_VERSION once, before the first call: with another version the
+ * header's fields, the lengths or the numbers may be others.
+ */
+uint32_t packet_window_version(void);
 
 /* ---- constants and lengths */
 

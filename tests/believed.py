@@ -1,5 +1,5 @@
 #!/usr/bin/env python3
-"""README's list of what one has to believe is whole, and no file on it holds a proof.
+"""README's list of what one has to believe is whole, and no file of a specs/ holds a proof.
 
 One has to believe the files of definitions that the statement of demand 3 and the contracts of the exported functions reach by
 their imports: README names each of them under 'What one has to believe', and no other.
@@ -71,11 +71,12 @@ def main():
     files = reached()
     wrong += [f'README does not name {path}' for path in sorted(files - listed)]
     wrong += [f'README names {path}, which is not reached' for path in sorted(listed - files)]
-    for path in sorted(files):
+    definitions = sorted(str(path.relative_to(ROOT)) for path in ROOT.glob('crates/*/specs/*.antt'))
+    for path in definitions:
         wrong += [f'{path} holds a proof: {name}' for name in proofs(path)]
     for line in wrong:
         print(line)
-    print(f'{len(files)} files of definitions, each on the list, and no proof in them')
+    print(f'{len(files)} files to believe, each on the list; no proof in the {len(definitions)} files of specs/')
     return 1 if wrong else 0
 
 

@@ -3,7 +3,7 @@
 
 Exported are the calls of document 01 by value, their host forms, the functions in C's calling convention, and the line parser and
 printer. Of each this is asked: no `requires`, and as `ensures` nothing but the contract record of its kind, at the call of its own name
-with its own parameters in their order (`new`, which is no call, has a record of its own). The records themselves are asked to be
+with its own parameters in their order (`new`, which is no call, has a record of its own, and the version a number). The records themselves are asked to be
 the contract of every call at the whole step and the whole soundness. Every call of `Call` and `Query` is exported, and every
 exported function is of a call there, so that demand 3 speaks of it.
 
@@ -29,6 +29,8 @@ KINDS = {
     'c_audit': ('packet_window_', 'NumbersMeetBy', 'NumbersMeetInto', 'c_calls', 'Numbers'),
     'c_host': ('packet_window_host_', 'OutcomeMeetsBy', 'OutcomeMeetsInto', 'c_host', 'Outcomes'),
 }
+# what is no call: crate, function, its whole contract
+OTHERS = {('c_calls', 'packet_window_version'): 'r ≡ version'}
 # new: crate, function, record, where it is defined
 NEW = [('window', 'new', 'NewBy', 'window', 'New'), ('c_calls', 'packet_window_new', 'CreatesBy', 'c_calls', 'Numbers')]
 TEXT = {'line_text': ['parse'], 'line_output': ['put_line', 'put_list', 'put_unknown']}
@@ -124,6 +126,11 @@ def problems(texts):
             exported = 'extern "C"' in function.head if kind[0] else 'pub fn' in function.head and (crate == 'call_host' or name in calls)
             if not exported or (crate, function.name) in [new[:2] for new in NEW]:
                 continue
+            if (crate, function.name) in OTHERS:
+                seen[crate, function.name] = function
+                if function.contracts != [OTHERS[crate, function.name]]:
+                    wrong.append(function.wrong(f'its contract is {function.contracts}'))
+                continue
             seen[crate, function.name] = function
             if name not in calls:
                 wrong.append(function.wrong('no call of Call or Query has this name'))
@@ -189,6 +196,8 @@ WRONG = [
     # an exported call that is no call of the model, and a call that is not exported
     ('crates/model/specs/Calls.antt', '  stranger : (first last : ℕ) → Query\n', ''),
     ('crates/c_audit/src/lib.rt', 'fn packet_window_check(', 'fn packet_window_checked('),
+    # the version
+    ('crates/c_calls/src/version.rt', 'r ≡ version', 'r ≡ r'),
     # new
     ('crates/c_calls/src/lib.rt', 'CreatesBy «window_size» n «demote_at»', 'CreatesBy «window_size» n n'),
     ('crates/call_host/src/lib.rt', 'HostMeetsBy (removeOf sequence) w', 'HostMeetsBy (removeOf 0) w'),

@@ -3,7 +3,8 @@
 
 Functions and structs of include/packet_window.h and of bindings/rust/src/raw.rs are those of the library's source: names, the
 names, types and order of parameters and fields. The constants, and the numbers of answers and refusals, are the source's. The
-functions of the header are the packet_window_ symbols of target/libpacket_window.a, each there once.
+functions of the header are the packet_window_ symbols of target/libpacket_window.a, each there once. One version stands in the
+library, the header, the wrapper, Cargo.toml and at the head of CHANGELOG.md.
 """
 import re
 import subprocess
@@ -15,9 +16,12 @@ RAW = ROOT / "bindings/rust/src/raw.rs"
 ANSWERS = ROOT / "bindings/rust/src/answers.rs"
 MEMORY = ROOT / "bindings/rust/src/memory.rs"
 LIBRARY = ROOT / "target/libpacket_window.a"
+CARGO = ROOT / "bindings/rust/Cargo.toml"
+CHANGES = ROOT / "CHANGELOG.md"
 EXPORTS = sorted(path for crate in ("c_calls", "c_audit", "c_host") for path in (ROOT / "crates" / crate / "src").glob("*.rt"))
 WINDOW = ROOT / "crates/window/src/lib.rt"
 REFUSALS = ROOT / "crates/window/src/refusals.rt"
+VERSION = ROOT / "crates/c_calls/src/version.rt"
 
 # What each language calls a type.
 SOURCE_TYPES = {
@@ -122,8 +126,11 @@ def c_named(declared):
 
 
 def c_functions(text):
-    found = re.findall(r"packet_window_(\w+) (packet_window_\w+)\(([^;{]*)\);", text)
-    return {name: (result, [c_named(parameter) for parameter in parts(given, ",")]) for result, name, given in found}
+    found = re.findall(r"(?:packet_window_)?(\w+) (packet_window_\w+)\(([^;{]*)\);", text)
+    return {
+        name: (C_TYPES.get(result, result), [c_named(parameter) for parameter in parts(given, ",") if parameter != "void"])
+        for result, name, given in found
+    }
 
 
 def c_structs(text):
@@ -156,6 +163,21 @@ def raw_refusals(text):
     return {upper(name): int(number) for name, number in re.findall(r"(\w+) = (\d+)", body)}
 
 
+# ---- the version
+
+
+def written(version):
+    return f"{version // 10000}.{version // 100 % 100}.{version % 100}"
+
+
+def versions():
+    """As Cargo.toml and the first entry of CHANGELOG.md write it."""
+    return {
+        CARGO.name: re.search(r'^version = "(.*)"$', CARGO.read_text(), flags=re.M)[1],
+        CHANGES.name: re.search(r"^## (\S+)$", CHANGES.read_text(), flags=re.M)[1],
+    }
+
+
 # ---- the comparison
 
 
@@ -185,9 +207,10 @@ def main():
     same("header, structs", c_structs(header), structs)
     same("wrapper, functions", raw_functions(raw), by_value(functions))
     same("wrapper, structs", rust_structs(raw, RAW_TYPES), {name: fields for name, fields in structs.items() if name != "outcome"})
-    constants = {**rust_constants(read(WINDOW)), "RETURN_PLACES": return_places(read(REFUSALS))}
+    constants = {**rust_constants(read(WINDOW)), **rust_constants(read(VERSION)), "RETURN_PLACES": return_places(read(REFUSALS))}
     same("header, constants", c_constants(header), constants)
     same("wrapper, constants", rust_constants(read(MEMORY)), constants)
+    same("versions", versions(), {path.name: written(constants["VERSION"]) for path in (CARGO, CHANGES)})
     codes, refusals = source_codes(source), source_refusals(read(REFUSALS))
     same("header, codes", c_enum(header, "code", "PACKET_WINDOW_"), codes)
     same("header, refusals", c_enum(header, "refusal", "PACKET_WINDOW_REFUSED_"), refusals)

@@ -1,5 +1,5 @@
 /*
- * The macros of packet_window.h, for every window_size: they are document 01's lengths, packet_window_new takes lists of these lengths
+ * The version of packet_window.h is the library's, and its macros hold for every window_size: they are document 01's lengths, packet_window_new takes lists of these lengths
  * and refuses one that is shorter. C99 and C++11.
  */
 #include "packet_window.h"
@@ -61,6 +61,10 @@ static int refuses_shorter(uint32_t window_size, const size_t lengths[LISTS])
 int main(void)
 {
     uint32_t window_size;
+    if (packet_window_version() != PACKET_WINDOW_VERSION) {
+        printf("the library's version is %u, the header's %u\n", (unsigned)packet_window_version(), (unsigned)PACKET_WINDOW_VERSION);
+        return 1;
+    }
     for (window_size = 1; window_size <= LARGEST; window_size++) {
         size_t lengths[LISTS];
         named_lengths(window_size, lengths);

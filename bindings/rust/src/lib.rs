@@ -46,7 +46,8 @@
 //! # Linking
 //!
 //! The build script links `libpacket_window.a`, which `./library` makes, from the folder that PACKET_WINDOW_LIBRARY names, else from
-//! target of the repository. Without cargo:
+//! target of the repository. It must be of the version that this wrapper is written for ([`VERSION`]), which [`Window::new`] and
+//! [`Window::from_parts`] see to. Without cargo:
 //!
 //! ```text
 //! rustc --edition 2021 --crate-type rlib --crate-name packet_window -L native=target -l static=packet_window bindings/rust/src/lib.rs
@@ -66,6 +67,6 @@ mod window;
 pub use answers::{Inserted, Outcome, Refusal, Released};
 #[cfg(feature = "alloc")]
 pub use memory::OwnedMemory;
-pub use memory::{block_words, capacity, page_words, Memory, MAX_RETIRED_RELEASED_PER_VISIT, PAGE_SLOTS, RETURN_PLACES};
+pub use memory::{block_words, capacity, page_words, Memory, MAX_RETIRED_RELEASED_PER_VISIT, PAGE_SLOTS, RETURN_PLACES, VERSION};
 pub use raw::Header;
-pub use window::{Iter, Window};
+pub use window::{library_version, Iter, Window};

@@ -55,6 +55,8 @@ pub const RELEASED: u32 = 6;
 pub const REFUSED: u32 = 7;
 
 extern "C" {
+    pub fn packet_window_version() -> u32;
+
     pub fn packet_window_new(
         sequences: *mut u32, sequences_length: usize, values: *mut u32, values_length: usize,
         pages: *mut u64, pages_length: usize, blocks: *mut u64, blocks_length: usize,

@@ -1,7 +1,7 @@
 //! The window: its header, the memory that it is lent, and the calls.
 
 use crate::answers::{self, Inserted, Outcome, Refusal, Released};
-use crate::memory::{capacity, Memory, RETURN_PLACES};
+use crate::memory::{capacity, Memory, RETURN_PLACES, VERSION};
 use crate::raw::{self, Header, NumberedAnswer, NumberedStep};
 use core::iter::FusedIterator;
 
@@ -51,13 +51,29 @@ macro_rules! returning {
     }};
 }
 
+/// The version of the library that is linked, as 10000 × major + 100 × minor + patch.
+pub fn library_version() -> u32 {
+    // SAFETY: it takes nothing and gives a number.
+    unsafe { raw::packet_window_version() }
+}
+
+/// With a library of another version the header's fields and the lengths may be others, so that no call may be made.
+fn same_version() {
+    assert_eq!(library_version(), VERSION, "libpacket_window.a is of another version than this wrapper");
+}
+
 impl<'m> Window<'m> {
     /// An empty window. `n`: the cells of a sparse page, 1 to 63; a page with more values becomes dense. `demote_at`: a dense page that
     /// a removal leaves with this many values or fewer becomes sparse again; at most `n`, and 0 for never. Neither changes what `insert`,
     /// `get`, `exchange`, `remove`, `successor_after`, `first_from` and `remove_range` answer.
     ///
     /// Refused, in this order: `WindowSize`, `SparseCells`, `DemoteAt`, `ShortMemory`. The memory then stays as it was.
+    ///
+    /// # Panics
+    ///
+    /// If the library that is linked is of another version than [`VERSION`].
     pub fn new(memory: Memory<'m>, window_size: u32, n: u32, demote_at: u32) -> Result<Self, Refusal> {
+        same_version();
         let Memory { sequences: s, values: v, pages: p, blocks: b, returned } = memory;
         // The library's new takes no return list: a short one is refused as short block words are.
         let block_words = if returned.len() < RETURN_PLACES { 0 } else { b.len() };
@@ -77,7 +93,12 @@ impl<'m> Window<'m> {
     /// last that the window in this memory had: with an older one, values may be handed back twice or never.
     ///
     /// Refused: `ShortMemory`, also for a header that no `new` gave; `Unsound`.
+    ///
+    /// # Panics
+    ///
+    /// As [`Window::new`].
     pub fn from_parts(header: Header, memory: Memory<'m>) -> Result<Self, Refusal> {
+        same_version();
         if memory.returned.len() < RETURN_PLACES {
             return Err(Refusal::ShortMemory);
         }

@@ -18,6 +18,12 @@ fn refusal_of_new(window_size: u32, n: u32, demote_at: u32) -> Option<Refusal> {
 }
 
 #[test]
+fn version() {
+    assert_eq!(library_version(), VERSION);
+    assert_eq!(format!("{}.{}.{}", VERSION / 10000, VERSION / 100 % 100, VERSION % 100), env!("CARGO_PKG_VERSION"));
+}
+
+#[test]
 fn limits_of_new() {
     assert_eq!(refusal_of_new(0, 8, 4), Some(Refusal::WindowSize));
     assert_eq!(refusal_of_new(1, 8, 4), None);

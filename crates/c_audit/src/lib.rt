@@ -1,4 +1,4 @@
-// stranger and check in C's calling convention, as the calls of `exports`. They are compiled apart, so that get, which stranger uses,
+// stranger and check in C's calling convention, as the calls of c_calls. They are compiled apart, so that get, which stranger uses,
 // keeps its one caller there.
 use c_calls::NumberedStep;
 use c_calls::in_numbers;

@@ -1,2 +1,3 @@
--- The calls in numbers.
+-- The calls in numbers (Numbers), and the version of the library (Version).
 pub mod Numbers
+pub mod Version

@@ -1,6 +1,7 @@
 // The calls in C's calling convention: header and answers by value, a list as a pointer and its length. `./library` makes
 // the library. retire.rt has the calls that remove a range, clear and release.
 pub mod retire;
+pub mod version;
 
 use call_point::exchange::exchange;
 use call_point::insert::insert;
