@@ -256,6 +256,6 @@ packet-window-host-release-retired-spec 𝓤 H 𝓜 𝓖 𝓡 =
     (tables 𝓤 H 𝓜 𝓡 code.env .C) (tables 𝓤 H 𝓜 𝓡 code.env .Λ) #host-exports·packet-window-host-release-retired code.function (code.unfolded 𝓤 H 𝓜 𝓡)
     (meets 𝓤 H (𝓖 .A) (givenOf 𝓤 H 𝓜 𝓖) (𝓜 .mem) (𝓡 .run) (tablesOf 𝓤 H 𝓜 (tables 𝓤 H 𝓜 𝓡 code.env))
     (cited 𝓤 H (Core 𝓤 H (𝓖 .A) (𝓜 .mem) (𝓡 .run)) 𝓜 𝓡 code.env #host·release-retired core-def.routine
-    code.calls-host·release-retired (core-thm.met 𝓤 H 𝓜 𝓖 𝓡))
+    code.calls-call-host·release-retired (core-thm.met 𝓤 H 𝓜 𝓖 𝓡))
     (cited 𝓤 H (Told 𝓤 H (𝓖 .A) (𝓜 .mem) (𝓡 .run)) 𝓜 𝓡 code.env #host-exports·outcome-in-numbers told-def.routine
-    code.calls-host-exports·outcome-in-numbers (told-thm.met 𝓤 H 𝓜 𝓖 𝓡)))
+    code.calls-c-host·outcome-in-numbers (told-thm.met 𝓤 H 𝓜 𝓖 𝓡)))

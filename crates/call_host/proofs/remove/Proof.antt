@@ -259,4 +259,4 @@ remove-spec 𝓤 H 𝓜 𝓖 𝓡 =
     (tables 𝓤 H 𝓜 𝓡 code.env .C) (tables 𝓤 H 𝓜 𝓡 code.env .Λ) #host·remove code.function (code.unfolded 𝓤 H 𝓜 𝓡)
     (meets 𝓤 H (𝓖 .A) (givenOf 𝓤 H 𝓜 𝓖) (𝓜 .mem) (𝓡 .run) (tablesOf 𝓤 H 𝓜 (tables 𝓤 H 𝓜 𝓡 code.env))
     (cited 𝓤 H (Core 𝓤 H (𝓖 .A) (𝓜 .mem) (𝓡 .run)) 𝓜 𝓡 code.env #points·remove·remove core-def.routine
-    code.calls-points·remove·remove (core-thm.met 𝓤 H 𝓜 𝓖 𝓡)))
+    code.calls-call-point·remove·remove (core-thm.met 𝓤 H 𝓜 𝓖 𝓡)))
