@@ -1,5 +1,7 @@
--- `host::insert` meets its contract: a walk of its MIR, by hand. The header's borrow is opened and the header copied; the copy and the lists go
--- to `points::insert::insert`, the lists for good; the header that it gives is stored, and the borrow is closed at it. Assumes nothing.
+-- Written by tests/walks/walks.py from tests/walks/forms.json and the signature of the function: change those, not this file.
+-- `call_host::insert` meets its contract: a walk of its MIR. The header's borrow is opened and the header copied; the copy and the lists go to
+-- `call_point::insert::insert`, the lists for good; the header that it gives is stored, and the borrow is closed at it.
+-- Assumes nothing.
 use mathlib.Core.Path.{refl, ap}
 use Prim.Native.Nat.{ℕ}
 use mathlib.Core.List.{List, [], _∷_}
@@ -32,7 +34,6 @@ use denote.Ref.{RefT, MutRef, now, ptr-vals, mut-tells}
 use denote.Slice.{MutSlice, finally, slice-vals}
 use denote.Steps.{only, opens, closes, owned, peeks, heard, nothing}
 use denote.Struct.Steps.{spelt}
-use denote.Struct.Laws as LL
 use denote.Triple.Entry.{Args, Vals, alive, onEntry}
 use denote.Triple.Spec.{Meets, tripleOf}
 use denote.Triple.Statement.{Contract, Triple}
@@ -43,24 +44,25 @@ use denote.Triple.Walked.{says, Stays, stay-dropped, stay-ref, gave-slice, Fit, 
 use denote.Exit.{yes}
 use denote.Signature.{Slot, plain, typesAt}
 use Rattle.window.specs.Memory.{memory}
-use Rattle.model.specs.Calls.{insert as insertOf}
+use Rattle.model.specs.Calls.{insert as callOf}
 use Rattle.model.specs.Contract.{Meets as MeetsCall}
 use Rattle.call_base.specs.Answers.{stateOf}
 use Rattle.call_host.specs.Lent.{leftAt}
 use Rattle.window.specs.declared.AdaptiveReceiverPacketWindow.{AdaptiveReceiverPacketWindow}
 use Rattle.window.specs.declared.answers.Step.{Step}
+use Rattle.call_host.proofs.MachineLaws.{header-value, outcome-value, header-is, outcome-is}
+use denote.Struct.Laws as LL
 use Rattle.window.proofs.AdaptiveReceiverPacketWindow as T
 use Rattle.window.proofs.AdaptiveReceiverPacketWindow.Laws as T′
 use Rattle.window.proofs.answers.Outcome as O
 use Rattle.window.proofs.answers.Outcome.Laws as O′
 use Rattle.window.proofs.answers.Step as S
 use Rattle.window.proofs.answers.Step.Laws as S′
-use Rattle.call_host.proofs.MachineLaws.{header-value, outcome-value, header-is, outcome-is}
 use Rattle.call_point.proofs.insert.insert as core
 use Rattle.call_point.proofs.insert.insert.Symbol as core-def
-use Rattle.call_point.proofs.insert.insert.Symbol.{name as #points·insert·insert}
+use Rattle.call_point.proofs.insert.insert.Symbol.{name as #call-point·insert·insert}
 use Rattle.call_point.proofs.insert.insert.Met as core-thm
-use Rattle.call_host.proofs.insert.Key.{name as #host·insert}
+use Rattle.call_host.proofs.insert.Key.{name as #call-host·insert}
 use Rattle.call_host.proofs.insert as f
 use Rattle.call_host.proofs.insert.Statement as stated
 use Rattle.call_host.proofs.insert.Code as code
@@ -78,9 +80,9 @@ words = plain (λ _. u64)
 abbrev stayed : Stays (f.ended .signature .params) (f.ended .kept)
 stayed = (stay-ref (0 ∷ []) tt header, (gave-slice (1 ∷ []) tt cells, (gave-slice (2 ∷ []) tt cells, (gave-slice (3 ∷ []) tt words, (gave-slice (4 ∷ []) tt words, (gave-slice (5 ∷ []) tt cells, (stay-dropped cells yes, (stay-dropped cells yes, tt))))))))
 
--- the contract that the proof cites
-abbrev Core : {M : Type 1} (𝓤 : URA M) (H : Heap 𝓤) (A : Atoms 𝓤) (mem : Memory → SProp 𝓤) (run : Routine → Fun 𝓤) → Contract 𝓤
-Core 𝓤 H A mem run = tripleOf 𝓤 H A core.signature (core.spec 𝓤 H A mem run)
+-- what the proof cites
+abbrev Core : {M : Type 1} (𝓤 : URA M) (H : Heap 𝓤) (A : Atoms 𝓤) (at-mem : Memory → SProp 𝓤) (run : Routine → Fun 𝓤) → Contract 𝓤
+Core 𝓤 H A at-mem run = tripleOf 𝓤 H A core.signature (core.spec 𝓤 H A at-mem run)
 
 module _ {M : Type 1} (𝓤 : URA M) (H : Heap 𝓤) (A : Atoms 𝓤) (W : Given 𝓤 H A) (at-mem : Memory → SProp 𝓤) (run : Routine → Fun 𝓤)
     (κs : Lfts 6) (qs : Shares 6) (a : Args f.signature κs) where
@@ -115,14 +117,14 @@ module _ {M : Type 1} (𝓤 : URA M) (H : Heap 𝓤) (A : Atoms 𝓤) (W : Given
   abbrev passed : List Val
   passed = flat (typesAt (f.signature .params) κs) vals
 
+  abbrev Post : Val → SProp 𝓤
+  Post = walkOf 𝓤 H A f.ended stayed (f.clauses 𝓤 H A at-mem run) .post ((κs, qs, tt, a, vals), tt)
+
   -- the types of the parameters after the header
   abbrev rest : List RattleType
   rest =
       MutSlice (named 1) (κs .1 .0) u32 ∷ MutSlice (named 2) (κs .1 .1 .0) u32 ∷ MutSlice (named 3) (κs .1 .1 .1 .0) u64 ∷
       MutSlice (named 4) (κs .1 .1 .1 .1 .0) u64 ∷ MutSlice (named 5) (κs .1 .1 .1 .1 .1 .0) u32 ∷ u32 ∷ u32 ∷ []
-
-  abbrev Post : Val → SProp 𝓤
-  Post = walkOf 𝓤 H A f.ended stayed (f.clauses 𝓤 H A at-mem run) .post ((κs, qs, tt, a, vals), tt)
 
   -- the call: what it is passed, what it asks, and what it says of its step and of the lists at the end
   abbrev given : Args core.signature (κs .1)
@@ -142,7 +144,8 @@ module _ {M : Type 1} (𝓤 : URA M) (H : Heap 𝓤) (A : Atoms 𝓤) (W : Given
 
   abbrev Said : Step → Lasts core.ended (κs .1) given → Type 0
   Said r zs =
-      MeetsCall (insertOf sequence value (leb 384 (length (now returned)))) (stateOf (now w) (memory (now sequences) (now values) (now pages) (now blocks))) (now returned)
+      MeetsCall (callOf sequence value (leb 384 (length (now returned))))
+      (stateOf (now w) (memory (now sequences) (now values) (now pages) (now blocks))) (now returned)
       (leftAt (r .window) (r .answer) (memory (zs .1 .0) (zs .1 .1 .0) (zs .1 .1 .1 .0) (zs .1 .1 .1 .1 .0)) (zs .1 .1 .1 .1 .1 .0))
 
   -- what the walk ends with: the borrow closed at the new header, the tokens, what says each list's last value, and the outcome
@@ -153,24 +156,28 @@ module _ {M : Type 1} (𝓤 : URA M) (H : Heap 𝓤) (A : Atoms 𝓤) (W : Given
       ‵ (finally u64 (pages .name) (zs .1 .1 .1 .0)) ∷ ‵ (finally u64 (blocks .name) (zs .1 .1 .1 .1 .0)) ∷
       ‵ (finally u32 (returned .name) (zs .1 .1 .1 .1 .1 .0)) ∷ ‵ (O.the-row .own (r .answer) (v ∷ [])) ∷ []
 
-  exits : (r : Step) (v : Val) (zs : Lasts core.ended (κs .1) given) → Said r zs → Fit f.ended stayed κs a (r .window, zs .1) → ent 𝓤 (⋆ 𝓤 H A (at-end r v zs)) (Post v)
+  exits : (r : Step) (v : Val) (zs : Lasts core.ended (κs .1) given) → Said r zs → Fit f.ended stayed κs a (r .window, zs .1)
+      → ent 𝓤 (⋆ 𝓤 H A (at-end r v zs)) (Post v)
   exits r v zs e fit =
       qed W (at-end r v zs) ∵
-      suffices ! _ (ends-at 𝓤 H A f.ended stayed (f.clauses 𝓤 H A at-mem run) W ((κs, qs, tt, a, vals), tt) v (r .answer) (r .window, zs .1) fit) $ says ! e $
-      move ! (2 ∷ 3 ∷ []) $ join ! $ frame ! $
-      nothing ! $ nothing ! $ fjoin ! $ nothing ! $ fjoin ! $ move ! (7 ∷ 0 ∷ []) $ fjoin ! $ move ! (6 ∷ 0 ∷ []) $ fjoin ! $
-      move ! (5 ∷ 0 ∷ []) $ fjoin ! $ move ! (4 ∷ 0 ∷ []) $ fjoin ! $ move ! (3 ∷ 0 ∷ []) $ fjoin ! $
+      suffices ! _ (ends-at 𝓤 H A f.ended stayed (f.clauses 𝓤 H A at-mem run) W ((κs, qs, tt, a, vals), tt) v (r .answer) (r .window, zs .1) fit) $
+      says ! e $
+      move ! (2 ∷ 3 ∷ []) $ join ! $ frame ! $ nothing ! $ nothing ! $ fjoin ! $ nothing ! $ fjoin ! $ move ! (7 ∷ 0 ∷ []) $ fjoin ! $
+      move ! (6 ∷ 0 ∷ []) $ fjoin ! $ move ! (5 ∷ 0 ∷ []) $ fjoin ! $ move ! (4 ∷ 0 ∷ []) $ fjoin ! $ move ! (3 ∷ 0 ∷ []) $ fjoin ! $
       move ! (1 ∷ 2 ∷ []) $ feqI ! (List Val) (ptr-vals w) (ptr-vals w) refl $ fjoin3 ! $ fjoin ! $ frame ! $ done !
 
-  module _ (C : Calls 𝓤 H) (Λ : Loops 𝓤 H) (fm : FmC 𝓤 H (W .laws) C) (known : Triple 𝓤 (C #points·insert·insert) (Core 𝓤 H A at-mem run)) where
+  module _ (C : Calls 𝓤 H) (Λ : Loops 𝓤 H) (fm : FmC 𝓤 H (W .laws) C)
+      (known : Triple 𝓤 (C #call-point·insert·insert) (Core 𝓤 H A at-mem run)) where
     walk : Are (typesAt (f.signature .params) κs) (Ises (typesAt (f.signature .params) κs)) a vals
         → ent 𝓤 (onEntry 𝓤 H A f.signature κs qs a vals) (WpFn 𝓤 H C Λ code.function passed Post)
     walk are =
-        qed W ((‵ (flft (κs .0) (qs .0)) ⊛ tokens) ∷ ‵ (owns (MutRef (named 0) (κs .0) T.the-row ∷ rest) a vals) ∷ []) ∵ enter ! C Λ code.function passed _ $
+        qed W ((‵ (flft (κs .0) (qs .0)) ⊛ tokens) ∷ ‵ (owns (MutRef (named 0) (κs .0) T.the-row ∷ rest) a vals) ∷ []) ∵
+        enter ! C Λ code.function passed _ $
         alloc1 ! (λ m0. alloc1 ! (λ m1. alloc1 ! (λ m2. alloc1 ! (λ m3. alloc1 ! (λ m4. alloc1 ! (λ m5. alloc1 ! (λ m6. alloc1 ! (λ m7.
-        alloc1 ! (λ m8. alloc1 ! (λ m9. alloc1 ! (λ m10. alloc1 ! (λ m11. alloc1 ! (λ m12. alloc1 ! (λ m13. alloc1 ! (λ m14.
-        alloc1 ! (λ m15. alloc1 ! (λ m16. alloc1 ! (λ m17. alloc1 ! (λ m18. alloc1 ! (λ m19. alloc1 ! (λ m20. alloc0 ! $ params1 ! $
-        pass1 ! (init ! 38 refl (tt, tt)) $ pass1 ! (init ! 36 refl (tt, (tt, (record { fits = are .1 .0 .0 .1 .0 }, tt)))) $
+        alloc1 ! (λ m8. alloc1 ! (λ m9. alloc1 ! (λ m10. alloc1 ! (λ m11. alloc1 ! (λ m12. alloc1 ! (λ m13. alloc1 ! (λ m14. alloc1 ! (λ m15.
+        alloc1 ! (λ m16. alloc1 ! (λ m17. alloc1 ! (λ m18. alloc1 ! (λ m19. alloc1 ! (λ m20. alloc0 ! $ params1 ! $
+        pass1 ! (init ! 38 refl (tt, tt)) $
+        pass1 ! (init ! 36 refl (tt, (tt, (record { fits = are .1 .0 .0 .1 .0 }, tt)))) $
         pass1 ! (init ! 34 refl (tt, (tt, (record { fits = are .1 .1 .0 .0 .1 .0 }, tt)))) $
         pass1 ! (init ! 32 refl (tt, (tt, (record { fits = are .1 .1 .1 .0 .0 .1 .0 }, tt)))) $
         pass1 ! (init ! 30 refl (tt, (tt, (record { fits = are .1 .1 .1 .1 .0 .0 .1 .0 }, tt)))) $
@@ -181,11 +188,11 @@ module _ {M : Type 1} (𝓤 : URA M) (H : Heap 𝓤) (A : Atoms 𝓤) (W : Given
         move ! (43 ∷ []) $ fsplit ! $ fsplit3 ! $ drop ! $ move ! (45 ∷ []) $ split ! $ move ! (2 ∷ 3 ∷ 0 ∷ []) $
         opens ! tt T.the-row {h = now w} (w .ptr .0) (w .ptr .1) (λ vs.
         spelt ! T.the-row (Is T.the-row) (shows 𝓤 H A T.the-row) (LL.vals T.the-type T′.the-laws) (LL.tells T.the-type T′.the-laws) fullShare
-        (now w) vs (w .ptr .0) (w .ptr .1) $
-        move ! (1 ∷ []) $ peeks ! T.the-row (Is T.the-row) (shows 𝓤 H A T.the-row) (now w) (header-value (now w) ∷ []) (λ g. move ! (1 ∷ 0 ∷ []) $
+        (now w) vs (w .ptr .0) (w .ptr .1) $ move ! (1 ∷ []) $
+        peeks ! T.the-row (Is T.the-row) (shows 𝓤 H A T.the-row) (now w) (header-value (now w) ∷ []) (λ g.
         -- the header is copied, and the lists are lent on
-        -- [the header's cell; what it owns; the open borrow; obs; auth; the lists' tokens; what the other parameters own; the locals, the last first]
-        assigns ! (of-opd ! (load ! (from ! (hop ! (look ! 45 refl) (stop !))) (look-raw ! 0 refl))) (from ! (stop !))
+        -- [owned header; cell; open borrow; obs; authority; tokens; owned; the locals, the last first]
+        assigns ! (of-opd ! (load ! (from ! (hop ! (look ! 45 refl) (stop !))) (look-raw ! 1 refl))) (from ! (stop !))
         (init ! 27 refl (LL.lawful T.the-type T′.the-laws 𝓤 H A W .typed (now w) _ g .0)) $
         assigns ! (addr ! (from ! (fld ! refl (hop ! (look-in ! 43 (sub ! 0 refl (whole !))) (stop !))))) (from ! (stop !)) (init ! 25 refl (tt, tt)) $
         assigns ! (agg ! (and-then ! (load ! (from ! (stop !)) (look ! 25 refl))
@@ -207,72 +214,75 @@ module _ {M : Type 1} (𝓤 : URA M) (H : Heap 𝓤) (A : Atoms 𝓤) (W : Given
         assigns ! (agg ! (and-then ! (load ! (from ! (stop !)) (look ! 9 refl))
         (and-then ! (load ! (from ! (fld ! refl (stop !))) (look-in ! 35 (sub ! 1 refl (whole !)))) (no-more !)))) (from ! (stop !))
         (init ! 7 refl (tt, (tt, (record { fits = are .1 .1 .1 .1 .1 .0 .0 .1 .0 }, tt)))) $
-        -- the call of `points::insert::insert`
-        move ! (5 ∷ 6 ∷ []) $ use2 W (raw (Core 𝓤 H A at-mem run .pre to-core)) (goes g) $ calls-at ! fm (Core 𝓤 H A at-mem run) known to-core
-        (and-then ! (load ! (from ! (stop !)) (look ! 26 refl)) (and-then ! (load ! (from ! (stop !)) (look ! 22 refl))
-        (and-then ! (load ! (from ! (stop !)) (look ! 18 refl)) (and-then ! (load ! (from ! (stop !)) (look ! 14 refl))
-        (and-then ! (load ! (from ! (stop !)) (look ! 10 refl)) (and-then ! (load ! (from ! (stop !)) (look ! 6 refl))
-        (and-then ! (load ! (from ! (stop !)) (look ! 32 refl)) (and-then ! (load ! (from ! (stop !)) (look ! 30 refl)) (no-more !))))))))) (λ v.
+        -- the call of `call_point::insert::insert`
+        move ! (5 ∷ 6 ∷ []) $ use2 W (raw (Core 𝓤 H A at-mem run .pre to-core)) (goes g) $
+        calls-at ! fm (Core 𝓤 H A at-mem run) known to-core (and-then ! (load ! (from ! (stop !)) (look ! 26 refl))
+        (and-then ! (load ! (from ! (stop !)) (look ! 22 refl)) (and-then ! (load ! (from ! (stop !)) (look ! 18 refl))
+        (and-then ! (load ! (from ! (stop !)) (look ! 14 refl)) (and-then ! (load ! (from ! (stop !)) (look ! 10 refl))
+        (and-then ! (load ! (from ! (stop !)) (look ! 6 refl)) (and-then ! (load ! (from ! (stop !)) (look ! 32 refl))
+        (and-then ! (load ! (from ! (stop !)) (look ! 30 refl)) (no-more !))))))))) (λ v.
         use1 W (later (some (λ (r : Step). (tokens ⊛ ‵ (S.the-row .own r (v ∷ [])))
-        ⊛ raw (ensured 𝓤 H A core.ended (core.clauses 𝓤 H A at-mem run) (κs .1) given tt r)))) (id⊢ 𝓤 _) $ await ! tt $ pick ! (λ r. split ! $ move ! (1 ∷ []) $
-        use1 W (some (λ (zs : Lasts core.ended (κs .1) given). ‵ (lasts core.ended (κs .1) given zs) ⊛ raw (fact 𝓤 (Said r zs)))) (id⊢ 𝓤 _) $ pick ! (λ zs.
-        split ! $ move ! (1 ∷ []) $ heard ! (Said r zs) (λ e.
-        fsplit ! $ drop ! $ fsplit ! $ fsplit ! $ move ! (1 ∷ []) $ feqL ! (λ l1. move ! (1 ∷ []) $ fsplit ! $ fsplit ! $
-        move ! (1 ∷ []) $ feqL ! (λ l2. move ! (1 ∷ []) $ fsplit ! $ fsplit ! $ move ! (1 ∷ []) $ feqL ! (λ l3. move ! (1 ∷ []) $
-        fsplit ! $ fsplit ! $ move ! (1 ∷ []) $ feqL ! (λ l4. move ! (1 ∷ []) $ fsplit ! $ fsplit ! $ move ! (1 ∷ []) $ feqL ! (λ l5.
-        move ! (6 ∷ []) $ split ! $ move ! (1 ∷ []) $ peeks ! S.the-row (Is S.the-row) (shows 𝓤 H A S.the-row) r (v ∷ []) (λ is.
+        ⊛ raw (ensured 𝓤 H A core.ended (core.clauses 𝓤 H A at-mem run) (κs .1) given tt r)))) (id⊢ 𝓤 _) $ await ! tt $ pick ! (λ r.
+        split ! $ move ! (1 ∷ []) $
+        use1 W (some (λ (zs : Lasts core.ended (κs .1) given). ‵ (lasts core.ended (κs .1) given zs) ⊛ raw (fact 𝓤 (Said r zs)))) (id⊢ 𝓤 _) $
+        pick ! (λ zs. split ! $ move ! (1 ∷ []) $ heard ! (Said r zs) (λ e.
+        fsplit ! $ drop ! $ fsplit ! $ fsplit ! $ move ! (1 ∷ []) $ feqL ! (λ l1. move ! (1 ∷ []) $ fsplit ! $ fsplit ! $ move ! (1 ∷ []) $
+        feqL ! (λ l2. move ! (1 ∷ []) $ fsplit ! $ fsplit ! $ move ! (1 ∷ []) $ feqL ! (λ l3. move ! (1 ∷ []) $ fsplit ! $ fsplit ! $
+        move ! (1 ∷ []) $ feqL ! (λ l4. move ! (1 ∷ []) $ fsplit ! $ fsplit ! $ move ! (1 ∷ []) $ feqL ! (λ l5. move ! (6 ∷ []) $ split ! $
+        move ! (1 ∷ []) $ peeks ! S.the-row (Is S.the-row) (shows 𝓤 H A S.the-row) r (v ∷ []) (λ is.
         land ! (from ! (stop !)) (init ! 35 refl (LL.lawful S.the-type S′.the-laws 𝓤 H A W .typed r _ is .0)) $
         rewrite ! 35 (λ (u : Val). ‵ (fat fullShare S′.mir m9 0 u)) (ap only (LL.tells S.the-type S′.the-laws r (v ∷ []) is)) refl $
         -- the header of the step is stored, and the outcome; the borrow is closed
+        -- [step; tokens; last of returned; lasts; last of blocks; last of pages; last of values; last of sequences; owned header; cell; open borrow; obs; authority; the locals, the last first]
         assigns ! (of-opd ! (load ! (from ! (fld ! refl (stop !))) (look-in ! 35 (sub ! 0 refl (whole !))))) (from ! (hop ! (look ! 51 refl) (stop !)))
-        (store-raw ! 8 refl (LL.lawful T.the-type T′.the-laws 𝓤 H A W .typed (r .window) _ (header-is r v is) .0)) $
+        (store-raw ! 9 refl (LL.lawful T.the-type T′.the-laws 𝓤 H A W .typed (r .window) _ (header-is r v is) .0)) $
         assigns ! (of-opd ! (load ! (from ! (fld ! refl (stop !))) (look-in ! 35 (sub ! 1 refl (whole !))))) (from ! (stop !))
         (init ! 53 refl (LL.lawful O.the-type O′.the-laws 𝓤 H A W .typed (r .answer) _ (outcome-is r v is) .0)) $
-        move ! (9 ∷ []) $ drop ! $ owned ! T.the-row (Is T.the-row) (LL.makes T.the-type T′.the-plain 𝓤 H A) (r .window) _ (header-is r v is) $
+        move ! (8 ∷ []) $ drop ! $ owned ! T.the-row (Is T.the-row) (LL.makes T.the-type T′.the-plain 𝓤 H A) (r .window) _ (header-is r v is) $
         move ! (9 ∷ 0 ∷ 10 ∷ 11 ∷ 12 ∷ []) $ closes ! tt T.the-row (r .window) (header-value (r .window) ∷ []) (w .ptr .0) (w .ptr .1) $
         -- the result, and the locals end
         returns ! (look ! 51 refl) $
         forget ! 11 refl $ forget ! 13 refl $ forget ! 15 refl $ forget ! 17 refl $ forget ! 19 refl $ forget ! 21 refl $ forget ! 23 refl $
         forget ! 25 refl $ forget ! 27 refl $ forget ! 29 refl $ forget ! 31 refl $ forget ! 33 refl $ forget ! 35 refl $ forget ! 37 refl $
         forget ! 39 refl $ forget ! 41 refl $ forget ! 43 refl $ forget ! 45 refl $ forget ! 47 refl $ forget ! 49 refl $ forget ! 51 refl $
-        move ! (51 ∷ 52 ∷ []) $ free1 ! $ move ! (49 ∷ 50 ∷ []) $ free1 ! $ move ! (47 ∷ 48 ∷ []) $ free1 ! $
-        move ! (45 ∷ 46 ∷ []) $ free1 ! $ move ! (43 ∷ 44 ∷ []) $ free1 ! $ move ! (41 ∷ 42 ∷ []) $ free1 ! $
-        move ! (39 ∷ 40 ∷ []) $ free1 ! $ move ! (37 ∷ 38 ∷ []) $ free1 ! $ move ! (35 ∷ 36 ∷ []) $ free1 ! $
-        move ! (33 ∷ 34 ∷ []) $ free1 ! $ move ! (31 ∷ 32 ∷ []) $ free1 ! $ move ! (29 ∷ 30 ∷ []) $ free1 ! $
-        move ! (27 ∷ 28 ∷ []) $ free1 ! $ move ! (25 ∷ 26 ∷ []) $ free1 ! $ move ! (23 ∷ 24 ∷ []) $ free1 ! $
-        move ! (21 ∷ 22 ∷ []) $ free1 ! $ move ! (19 ∷ 20 ∷ []) $ free1 ! $ move ! (17 ∷ 18 ∷ []) $ free1 ! $
-        move ! (15 ∷ 16 ∷ []) $ free1 ! $ move ! (13 ∷ 14 ∷ []) $ free1 ! $ move ! (11 ∷ 12 ∷ []) $ free1 ! $ free0 ! $
+        move ! (51 ∷ 52 ∷ []) $ free1 ! $ move ! (49 ∷ 50 ∷ []) $ free1 ! $ move ! (47 ∷ 48 ∷ []) $ free1 ! $ move ! (45 ∷ 46 ∷ []) $ free1 ! $
+        move ! (43 ∷ 44 ∷ []) $ free1 ! $ move ! (41 ∷ 42 ∷ []) $ free1 ! $ move ! (39 ∷ 40 ∷ []) $ free1 ! $ move ! (37 ∷ 38 ∷ []) $ free1 ! $
+        move ! (35 ∷ 36 ∷ []) $ free1 ! $ move ! (33 ∷ 34 ∷ []) $ free1 ! $ move ! (31 ∷ 32 ∷ []) $ free1 ! $ move ! (29 ∷ 30 ∷ []) $ free1 ! $
+        move ! (27 ∷ 28 ∷ []) $ free1 ! $ move ! (25 ∷ 26 ∷ []) $ free1 ! $ move ! (23 ∷ 24 ∷ []) $ free1 ! $ move ! (21 ∷ 22 ∷ []) $ free1 ! $
+        move ! (19 ∷ 20 ∷ []) $ free1 ! $ move ! (17 ∷ 18 ∷ []) $ free1 ! $ move ! (15 ∷ 16 ∷ []) $ free1 ! $ move ! (13 ∷ 14 ∷ []) $ free1 ! $
+        move ! (11 ∷ 12 ∷ []) $ free1 ! $ free0 ! $
         owned ! O.the-row (Is O.the-row) (LL.makes O.the-type O′.the-plain 𝓤 H A) (r .answer) _ (outcome-is r v is) $
-        keep ! (1 ∷ 2 ∷ 3 ∷ 5 ∷ 11 ∷ 10 ∷ 9 ∷ 8 ∷ 6 ∷ 0 ∷ []) $ by ! (exits r (outcome-value (r .answer)) zs e (tt, (l1, (l2, (l3, (l4, (l5, (tt, (tt, tt))))))))))))))))))))))))))))))))))))))))))
+        keep ! (1 ∷ 2 ∷ 3 ∷ 5 ∷ 11 ∷ 10 ∷ 9 ∷ 8 ∷ 6 ∷ 0 ∷ []) $
+        by ! (exits r (outcome-value (r .answer)) zs e (tt, (l1, (l2, (l3, (l4, (l5, (tt, (tt, tt))))))))))))))))))))))))))))))))))))))))))
 
-module _ {M : Type 1} (𝓤 : URA M) (H : Heap 𝓤) (A : Atoms 𝓤) (W : Given 𝓤 H A) (mem : Memory → SProp 𝓤) (run : Routine → Fun 𝓤) where
+module _ {M : Type 1} (𝓤 : URA M) (H : Heap 𝓤) (A : Atoms 𝓤) (W : Given 𝓤 H A) (at-mem : Memory → SProp 𝓤) (run : Routine → Fun 𝓤) where
   walks : (C : Calls 𝓤 H) (Λ : Loops 𝓤 H) → FmC 𝓤 H (W .laws) C
-      → Triple 𝓤 (C #points·insert·insert) (Core 𝓤 H A mem run)
-      → Walks 𝓤 H A f.ended stayed (WpFn 𝓤 H C Λ code.function) (f.clauses 𝓤 H A mem run)
+      → Triple 𝓤 (C #call-point·insert·insert) (Core 𝓤 H A at-mem run)
+      → Walks 𝓤 H A f.ended stayed (WpFn 𝓤 H C Λ code.function) (f.clauses 𝓤 H A at-mem run)
   walks C Λ fm known =
-      walked 𝓤 H A f.ended stayed (f.clauses 𝓤 H A mem run) (WpFn 𝓤 H C Λ code.function)
+      walked 𝓤 H A f.ended stayed (f.clauses 𝓤 H A at-mem run) (WpFn 𝓤 H C Λ code.function)
       (λ κs. (ptr-vals, (slice-vals, (slice-vals, (slice-vals, (slice-vals, (slice-vals, (uint-vals w32, (uint-vals w32, tt)))))))))
       (λ κs. (mut-tells (named 0) (κs .0) T.the-row, (λ x vs p. p .0 .0, (λ x vs p. p .0 .0, (λ x vs p. p .0 .0, (λ x vs p. p .0 .0, (λ x vs p. p .0 .0, (uint-tells w32, (uint-tells w32, tt)))))))))
-      (λ κs qs bounds a g are. via 𝓤 _ (fst∗ 𝓤 _ (emp 𝓤)) (walk 𝓤 H A W mem run κs qs a C Λ fm known are))
+      (λ κs qs bounds a g are. via 𝓤 _ (fst∗ 𝓤 _ (emp 𝓤)) (walk 𝓤 H A W at-mem run κs qs a C Λ fm known are))
 
   goings : AllGo 𝓤 H A W 6 (f.ended .signature .params) (f.ended .kept) stayed
   goings =
       let gave = goes-gave-slice 𝓤 H A W 6 in
-      let number = goes-dropped 𝓤 H A W 6 cells yes (λ κs x f. refl) in
-      (goes-ref 𝓤 H A W 6 0 tt header, (gave 1 tt cells, (gave 2 tt cells, (gave 3 tt words, (gave 4 tt words, (gave 5 tt cells, (number, (number, tt))))))))
+      let dropped = goes-dropped 𝓤 H A W 6 in
+      (goes-ref 𝓤 H A W 6 0 tt header, (gave 1 tt cells, (gave 2 tt cells, (gave 3 tt words, (gave 4 tt words, (gave 5 tt cells, (dropped cells yes (λ κs x f. refl), (dropped cells yes (λ κs x f. refl), tt))))))))
 
-meets : {M : Type 1} (𝓤 : URA M) (H : Heap 𝓤) (A : Atoms 𝓤) (W : Given 𝓤 H A) (mem : Memory → SProp 𝓤) (run : Routine → Fun 𝓤) (𝓣 : Tables 𝓤 H)
-    → Triple 𝓤 (𝓣 .C #points·insert·insert) (Core 𝓤 H A mem run)
-    → Meets 𝓤 H A f.signature (WpFn 𝓤 H (𝓣 .C) (𝓣 .Λ) code.function) (f.spec 𝓤 H A mem run)
-meets 𝓤 H A W mem run 𝓣 known =
-    walk-meets 𝓤 H A f.ended stayed W (goings 𝓤 H A W mem run) (f.clauses 𝓤 H A mem run) (WpFn 𝓤 H (𝓣 .C) (𝓣 .Λ) code.function)
-    (WpFn-mono 𝓤 H (W .laws) 𝓣 code.function) (walks 𝓤 H A W mem run (𝓣 .C) (𝓣 .Λ) (fmOf 𝓤 H (W .laws) 𝓣) known)
+meets : {M : Type 1} (𝓤 : URA M) (H : Heap 𝓤) (A : Atoms 𝓤) (W : Given 𝓤 H A) (at-mem : Memory → SProp 𝓤) (run : Routine → Fun 𝓤) (𝓣 : Tables 𝓤 H)
+    → Triple 𝓤 (𝓣 .C #call-point·insert·insert) (Core 𝓤 H A at-mem run)
+    → Meets 𝓤 H A f.signature (WpFn 𝓤 H (𝓣 .C) (𝓣 .Λ) code.function) (f.spec 𝓤 H A at-mem run)
+meets 𝓤 H A W at-mem run 𝓣 known =
+    walk-meets 𝓤 H A f.ended stayed W (goings 𝓤 H A W at-mem run) (f.clauses 𝓤 H A at-mem run) (WpFn 𝓤 H (𝓣 .C) (𝓣 .Λ) code.function)
+    (WpFn-mono 𝓤 H (W .laws) 𝓣 code.function) (walks 𝓤 H A W at-mem run (𝓣 .C) (𝓣 .Λ) (fmOf 𝓤 H (W .laws) 𝓣) known)
 
 pub insert-spec : {M : Type 1} → stated.statement M
 unfolding code.routine tablesOf
 insert-spec 𝓤 H 𝓜 𝓖 𝓡 =
     entered 𝓤 H (tripleOf 𝓤 H (𝓖 .A) f.signature (f.spec 𝓤 H (𝓖 .A) (𝓜 .mem) (𝓡 .run)))
-    (tables 𝓤 H 𝓜 𝓡 code.env .C) (tables 𝓤 H 𝓜 𝓡 code.env .Λ) #host·insert code.function (code.unfolded 𝓤 H 𝓜 𝓡)
+    (tables 𝓤 H 𝓜 𝓡 code.env .C) (tables 𝓤 H 𝓜 𝓡 code.env .Λ) #call-host·insert code.function (code.unfolded 𝓤 H 𝓜 𝓡)
     (meets 𝓤 H (𝓖 .A) (givenOf 𝓤 H 𝓜 𝓖) (𝓜 .mem) (𝓡 .run) (tablesOf 𝓤 H 𝓜 (tables 𝓤 H 𝓜 𝓡 code.env))
-    (cited 𝓤 H (Core 𝓤 H (𝓖 .A) (𝓜 .mem) (𝓡 .run)) 𝓜 𝓡 code.env #points·insert·insert core-def.routine
+    (cited 𝓤 H (Core 𝓤 H (𝓖 .A) (𝓜 .mem) (𝓡 .run)) 𝓜 𝓡 code.env #call-point·insert·insert core-def.routine
     code.calls-call-point·insert·insert (core-thm.met 𝓤 H 𝓜 𝓖 𝓡)))
