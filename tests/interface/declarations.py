@@ -2,9 +2,9 @@
 """The declarations of the static library against the library.
 
 Functions and structs of include/packet_window.h and of bindings/rust/src/raw.rs are those of the library's source: names, the
-names, types and order of parameters and fields. The constants, and the numbers of answers and refusals, are the source's. The
-functions of the header are the packet_window_ symbols of target/libpacket_window.a, each there once. One version stands in the
-library, the header, the wrapper, Cargo.toml and at the head of CHANGELOG.md.
+names, types and order of parameters and fields. The constants, and the numbers of answers and refusals, are the source's, and the
+wrapper reads every refusal's number. The functions of the header are the packet_window_ symbols of target/libpacket_window.a, each
+there once. One version stands in the library, the header, the wrapper, Cargo.toml and at the head of CHANGELOG.md.
 """
 import re
 import subprocess
@@ -163,6 +163,12 @@ def raw_refusals(text):
     return {upper(name): int(number) for name, number in re.findall(r"(\w+) = (\d+)", body)}
 
 
+def raw_read(text):
+    """The refusals that the wrapper knows by their number: those of Refusal::ALL. It takes another number for Unsound."""
+    body = re.search(r"const ALL: \[Self; \d+\] = \[(.*?)\];", text, flags=re.S)[1]
+    return {upper(name): True for name in re.findall(r"Self::(\w+)", body)}
+
+
 # ---- the version
 
 
@@ -216,6 +222,7 @@ def main():
     same("header, refusals", c_enum(header, "refusal", "PACKET_WINDOW_REFUSED_"), refusals)
     same("wrapper, codes", rust_constants(raw), codes)
     same("wrapper, refusals", raw_refusals(read(ANSWERS)), refusals)
+    same("wrapper, refusals read", raw_read(read(ANSWERS)), dict.fromkeys(refusals, True))
     if symbols() != sorted(functions):
         raise SystemExit(f"the symbols of the library are {symbols()}, the functions of the header {sorted(functions)}")
     counts = f"{len(functions)} functions, {len(structs)} structs, {len(constants)} constants, {len(codes)} codes, {len(refusals)} refusals"
