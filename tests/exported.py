@@ -5,7 +5,7 @@ Exported are the calls of document 01 by value, their host forms, the functions 
 printer. Of each this is asked: no `requires`, and as `ensures` nothing but the contract record of its kind, at the call of its own name
 with its own parameters in their order (`new`, which is no call, has a record of its own, and the version a number). The records themselves are asked to be
 the contract of every call at the whole step and the whole soundness. Every call of `Call` and `Query` is exported, and every
-exported function is of a call there, so that demand 3 speaks of it.
+exported function is of a call there, so that demand 3 speaks of it. The order of refusals is computed for every call.
 
     tests/exported.py               the test; the logs of the last check are read, so the crates must be proved first
     tests/exported.py --selftest    wrong contracts, each of which must be noticed
@@ -34,6 +34,8 @@ OTHERS = {('c_calls', 'packet_window_version'): 'r ≡ version'}
 # new: crate, function, record, where it is defined
 NEW = [('window', 'new', 'NewBy', 'window', 'New'), ('c_calls', 'packet_window_new', 'CreatesBy', 'c_calls', 'Numbers')]
 TEXT = {'line_text': ['parse'], 'line_output': ['put_line', 'put_list', 'put_unknown']}
+# where the order of refusals is computed, at `order`
+EXAMPLES = 'crates/model/proofs/Examples.antt'
 # what the records say: each line stands in its file, word for word
 DEFINED = {
     'crates/model/specs/Contract.antt': ['Does = DoesAs windowStep Sound', 'Meets = MeetsAs windowStep Sound'],
@@ -222,7 +224,10 @@ def selftest():
 def main():
     if sys.argv[1:] == ['--selftest']:
         return selftest()
-    wrong, seen = problems(read())
+    texts = read()
+    wrong, seen = problems(texts)
+    computed = re.findall(r'[\w-]+', (ROOT / EXAMPLES).read_text().partition('\norder :')[2])
+    wrong += [f'{EXAMPLES}: order has no {name}' for name in constructors(texts) if name.replace('_', '-') not in computed]
     crates = [line.split(':')[0] for line in (ROOT / 'crates.txt').read_text().splitlines() if line and line[0] != '#']
     for crate in crates:
         if axioms(crate) != AXIOMS.get(crate, ''):
