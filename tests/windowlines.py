@@ -4,11 +4,14 @@
   tests/windowlines.py recorded   recorded files, byte for byte
   tests/windowlines.py oracle     recorded and generated files, the same bytes in small writes, lines no program
                                   should be asked, and writes that fail
+
+In the recorded files, and in the generated ones, every letter that the line parser knows is answered.
 """
 import random
 import re
 import subprocess
 import sys
+from collections import Counter
 from pathlib import Path
 
 ROOT = Path(__file__).resolve().parent.parent
@@ -16,6 +19,7 @@ PROGRAM = ROOT / "target/bin/windowlines"
 ORACLE = ROOT / "oracle/target/oracle"
 GENERATE = ROOT / "oracle/target/generate"
 RECORDED = ROOT / "tests/recorded"
+PARSER = ROOT / "crates/line_text/src/lib.rt"
 GENERATED = 1050
 LONG = 10  # lists of 100,000 calls
 # What the answers must show, each in so many lines at least.
@@ -25,6 +29,7 @@ SHOWN = {
     "retired values held": (rb"^[a-z]\t[^\t\n]+\t\d+\t[1-9]", 10000),
     "pages revived": (rb"^i\t[^\t\n]+(?:\t\d+){5}", 1000),
 }
+ANSWERED = 1000  # lines of each letter with an answer that is not `?`
 WRAPPED = 1000  # ranges taken whose last sequence is below their first
 
 
@@ -50,19 +55,31 @@ def compare(name, got, wanted):
     raise SystemExit(f"{name}: the program wrote {len(got)} bytes, wanted are {len(wanted)}")
 
 
+def demand_letters(answered, least):
+    """Each letter of field_count begins so many answers."""
+    known = re.search(r"fn field_count\(.*?^}", PARSER.read_text(), re.M | re.S)[0]
+    for letter in re.findall(r"b'(\w)'", known):
+        if answered[letter.encode()] < least:
+            raise SystemExit(f"only {answered[letter.encode()]} answers to the letter {letter}")
+
+
 def recorded_inputs():
     return sorted(path for path in RECORDED.glob("*.in") if not path.name.endswith(".large.in"))
 
 
 def check_recorded():
     files = calls = 0
+    answered = Counter()
     for path in recorded_inputs():
         data = path.read_bytes()
-        compare(path.name, run(PROGRAM, data), path.with_suffix(".out").read_bytes())
+        wanted = path.with_suffix(".out").read_bytes()
+        compare(path.name, run(PROGRAM, data), wanted)
+        answered.update(line[:1] for line in wanted.split(b"\n"))
         files += 1
         calls += len(split_at_line_feeds(data))
     if files < 107:
         raise SystemExit(f"only {files} recorded files")
+    demand_letters(answered, 1)
     print(f"{calls} lines of {files} files")
 
 
@@ -136,6 +153,7 @@ def check_oracle():
     files = calls = 0
     shown = dict.fromkeys(SHOWN, 0)
     shown["ranges that wrap"] = 0
+    answered = Counter()
     for path in recorded_inputs():
         data = path.read_bytes()
         compare(path.name, run(PROGRAM, data), run(ORACLE, data))
@@ -149,6 +167,7 @@ def check_oracle():
         for name, (pattern, _) in SHOWN.items():
             shown[name] += len(re.findall(pattern, answers, re.M))
         shown["ranges that wrap"] += wrapped(data, answers)
+        answered.update(line[:1] for line in answers.split(b"\n"))
         if seed % 40 == 0:
             small = data[:4000]
             compare(f"generate {seed}, in small writes", in_small_writes(small, seed), run(ORACLE, small))
@@ -156,6 +175,7 @@ def check_oracle():
     for name, least in wanted.items():
         if shown[name] < least:
             raise SystemExit(f"only {shown[name]} lines with {name}")
+    demand_letters(answered, ANSWERED)
     odd = 0
     for data in odd_inputs():
         compare(f"odd input {odd}: {data[:80]!r}", run(PROGRAM, data), run(ORACLE, data))
