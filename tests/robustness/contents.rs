@@ -51,16 +51,18 @@ pub fn fill_around(random: &mut Random, memory: &mut Memory) {
 
 /// The header's counts and masks, of one kind; what the limits are on stays.
 fn fill_header(random: &mut Random, memory: &mut Memory, kind: Kind) {
-    let header = &mut memory.header;
-    header.len = word(random, kind) as u32;
-    header.retired_held = word(random, kind) as u32;
-    header.release_cursor = word(random, kind) as u32;
-    header.nonempty_summary = word(random, kind);
-    header.retired_blocks = word(random, kind);
-    header.promotions = word(random, kind);
-    header.demotions = word(random, kind);
-    header.n = 1 + random.below(63);
-    header.demote_at = random.below(header.n + 1);
+    // Every field is named, so that a new one is not left out.
+    let Header {
+        window_size: _, n, demote_at, len, retired_held, release_cursor, nonempty_summary, retired_blocks, promotions, demotions,
+    } = &mut memory.header;
+    for count in [len, retired_held, release_cursor] {
+        *count = word(random, kind) as u32;
+    }
+    for field in [nonempty_summary, retired_blocks, promotions, demotions] {
+        *field = word(random, kind);
+    }
+    *n = 1 + random.below(63);
+    *demote_at = random.below(*n + 1);
 }
 
 /// The lists' words of one kind. Most page kinds are small, and half of the time the sequences stand at their own positions, so that a
