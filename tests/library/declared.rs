@@ -1,5 +1,6 @@
 //! The static library as a Rust caller declares it: as the wrapper does, and the host forms.
 
+#[allow(dead_code)] // a program need not ask for the version
 #[path = "../../bindings/rust/src/raw.rs"]
 mod raw;
 pub use raw::*;

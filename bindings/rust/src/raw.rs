@@ -55,7 +55,6 @@ pub const RELEASED: u32 = 6;
 pub const REFUSED: u32 = 7;
 
 extern "C" {
-    #[allow(dead_code)] // tests/robustness declares the library by this file and does not ask for it
     pub fn packet_window_version() -> u32;
 
     pub fn packet_window_new(
