@@ -3,7 +3,7 @@ import re
 import sys
 from pathlib import Path
 
-from steps import at, consed, defined, filled, nested
+from steps import at, defined, filled, nested
 
 HERE = Path(__file__).resolve().parent
 HEADER = 'AdaptiveReceiverPacketWindow'
@@ -13,10 +13,13 @@ RETURNED = 'returned'
 WIDTHS = {'u8': ('w8', 'bytes'), 'u16': ('w16', 'halves'), 'u32': ('w32', 'cells'), 'u64': ('w64', 'words'), 'usize': ('w64', 'sizes')}
 
 
+def text_of(name):
+    return (HERE / f'{name}.text').read_text().rstrip('\n')
+
+
 def template(name, values):
     """A text of this folder, with values for the names between ⟨ and ⟩."""
-    text = (HERE / f'{name}.text').read_text().rstrip('\n')
-    return re.sub(r'⟨(\w+)⟩', lambda found: str(values[found[1]]), text)
+    return re.sub(r'⟨(\w+)⟩', lambda found: str(values[found[1]]), text_of(name))
 
 
 def words_of(text):
@@ -41,7 +44,7 @@ class Parameter:
     """A parameter of a form: the header, a list or a number. Its lifetime is counted among those of header and lists."""
 
     def __init__(self, name, written, index, lifetime):
-        self.name, self.index, self.lifetime = name, index, lifetime
+        self.name, self.index, self.lifetime, self.local = name, index, lifetime, f'parameter {name}'
         found = re.fullmatch(rf'(?:(&mut |&)\[(\w+)\]|&mut {HEADER}|(\w+))', written)
         if not found or (found[2] or found[3] or 'u32') not in WIDTHS:
             sys.exit(f'no shape has a parameter {name}: {written}')
@@ -127,10 +130,10 @@ class Callee:
 
 
 class Form:
-    """What all shapes have in common. A shape says what is had of the header at the end (STAYS, GOES, HAD), and gives about, shape and steps."""
+    """What all shapes have in common. A shape has its TEXT, what is had of the header at the end (STAYS, GOES, HAD), and gives about, shape
+    and steps."""
 
     def __init__(self, described, source):
-        self.described = described
         self.form, self.callee, self.call, self.outcome = (described[key] for key in ['form', 'callee', 'call', 'outcome'])
         self.crate, self.function = self.form.split('::')
         self.parameters = signature(self.function, source)
@@ -140,9 +143,18 @@ class Form:
         self.callees = [Callee('core', self.callee, self.crate)]
         # the locals of the MIR: the result, the parameters, what the callee gives, the header as it is passed on, and of each list that is
         # written its start, and its start with its length
-        self.locals = ['result', *(p.name for p in self.parameters), 'given', 'header passed']
+        self.locals = ['result', *(p.local for p in self.parameters), 'given', 'header passed']
         for p in self.lent:
             self.locals += [f'start of {p.name}', f'lent {p.name}']
+
+        self.refuse_names()
+
+    def refuse_names(self):
+        """A parameter is not to have a name that the walk has for something else."""
+        own = words_of(re.sub(r'--.*', '', text_of('proof') + text_of(self.TEXT))) | {slot for _, slot in WIDTHS.values()}
+        taken = [p.name for p in self.rest if p.name in own | words_of(text_of('names'))]
+        if taken:
+            sys.exit(f'{self.form}: its walk has another meaning for the name {taken[0]}')
 
     def named(self, name):
         return next((p for p in self.parameters if p.name == name), None)
@@ -195,12 +207,10 @@ class Form:
     def uses(self, text):
         """The imports: of the names in names.text and in `project` those that stand in the text, and the modules that are named whole."""
         words, lines = words_of(text), []
-        kit = [line for line in (HERE / 'names.text').read_text().splitlines() if not line.startswith('#')]
+        kit = [line for line in text_of('names').splitlines() if not line.startswith('#')]
         for source, names in (line.split(': ') for line in kit + self.project()):
             names = [name.split('=') for name in names.split()]
             used = [name for name in names if name[0].strip('_') in words]
-            if any(p.name == name[0] for p in self.parameters for name in used):
-                sys.exit(f'{self.form}: a parameter has a name that the walk has from {source}')
             if used:
                 lines.append(f"use {source}.{{{', '.join(' as '.join(reversed(name)) for name in used)}}}")
         lines += [f'use {source} as {alias}' for alias, source in self.aliases() if any(word.startswith(alias + '.') for word in words)]
@@ -243,15 +253,15 @@ class Form:
         steps.step('alloc0 !')
         steps.step('params1 !')
         for p in self.parameters:
-            steps.statement(f'pass1 ! {steps.init(p.name, p.typed())}')
+            steps.statement(f'pass1 ! {steps.init(p.local, p.typed())}')
         steps.step('pass0 !')
 
     def lends_lists(self, steps):
         """Each list that is written is lent on: its start is taken, and joined with its length."""
         for p in self.lent:
             start, lent = f'start of {p.name}', f'lent {p.name}'
-            steps.statement(f'assigns ! (addr ! (from ! (fld ! refl (hop ! ({steps.look_in(p.name, 0)}) (stop !))))) (from ! (stop !)) {steps.init(start, "(tt, tt)")}')
-            steps.statement(f'assigns ! (agg ! (and-then ! {steps.look(start)}', f'(and-then ! {steps.field(p.name, 1)} (no-more !)))) (from ! (stop !))', steps.init(lent, p.typed()))
+            steps.statement(f'assigns ! (addr ! (from ! (fld ! refl (hop ! ({steps.look_in(p.local, 0)}) (stop !))))) (from ! (stop !)) {steps.init(start, "(tt, tt)")}')
+            steps.statement(f'assigns ! (agg ! (and-then ! {steps.look(start)}', f'(and-then ! {steps.field(p.local, 1)} (no-more !)))) (from ! (stop !))', steps.init(lent, p.typed()))
 
     def calls(self, steps, callee, asked, arguments, result):
         """A call, with what its contract asks at the front."""
@@ -260,7 +270,7 @@ class Form:
         steps.binds(f'calls-at ! fm ({callee.contract} 𝓤 H A at-mem run) {callee.known} {asked}', *loads, '(no-more !)' + ')' * len(loads), f'(λ {result}.')
 
     def calls_core(self, steps):
-        arguments = ['header passed', *(f'lent {p.name}' if p.lent else p.name for p in self.rest)]
+        arguments = ['header passed', *(f'lent {p.name}' if p.lent else p.local for p in self.rest)]
         self.calls(steps, self.callees[0], 'to-core', arguments, 'v')
 
     def hears_core(self, steps, type, alias, lifetimes, given):

@@ -17,7 +17,7 @@ def owned(alias, value, known):
 
 
 class Lent(Form):
-    STAYS, GOES = 'stay-ref', 'goes-ref'
+    TEXT, STAYS, GOES = 'lent', 'stay-ref', 'goes-ref'
     HAD = "the header's borrow, and of each list that is written what says its last value"
 
     def __init__(self, described, source):
@@ -39,7 +39,7 @@ class Lent(Form):
     def shape(self):
         borrow = ['‵ (fobs (w .name) (T.the-row .coded .code (r .window)))', '‵ (fbor (κs .0) (Body (mem T.the-row) (w .ptr .0) (w .ptr .1) (w .name)))', '‵ (flft (κs .0) (qs .0))']
         at_end = [*borrow, 'tokens', *self.finals(), '‵ (O.the-row .own (r .answer) (v ∷ []))']
-        return template('lent', {
+        return template(self.TEXT, {
             'rest': defined(2, 'rest', consed([p.row() for p in self.rest])),
             'step': last_name(self.step),
             'said': self.said('(r .window)', '(r .answer)'),
@@ -106,7 +106,7 @@ class Lent(Form):
     def copies_header(self, steps):
         steps.note('the header is copied, and the lists are lent on')
         steps.note_had()
-        steps.step(f"assigns ! (of-opd ! (load ! {steps.behind('w')} (look-raw ! {steps.place('cell')} refl))) (from ! (stop !))",
+        steps.step(f"assigns ! (of-opd ! (load ! {steps.behind('parameter w')} (look-raw ! {steps.place('cell')} refl))) (from ! (stop !))",
                    steps.init('header passed', lawful('T', '(now w)', 'g')))
 
     def lands_step(self, steps):
@@ -121,7 +121,7 @@ class Lent(Form):
     def stores_header(self, steps):
         steps.note('the header of the step is stored, and the outcome; the borrow is closed')
         steps.note_had()
-        steps.step(f"assigns ! (of-opd ! {steps.field('given', 0)}) {steps.behind('w')}",
+        steps.step(f"assigns ! (of-opd ! {steps.field('given', 0)}) {steps.behind('parameter w')}",
                    f"(store-raw ! {steps.place('cell')} refl {lawful('T', '(r .window)', '(header-is r v is)')})")
         steps.statement(f"assigns ! (of-opd ! {steps.field('given', 1)}) (from ! (stop !))", steps.init('result', lawful('O', '(r .answer)', '(outcome-is r v is)')))
         steps.line()
@@ -134,7 +134,7 @@ class Lent(Form):
 
 
 class InNumbers(Form):
-    STAYS, GOES = 'gave-ref', 'goes-gave-ref'
+    TEXT, STAYS, GOES = 'in_numbers', 'gave-ref', 'goes-gave-ref'
     HAD = 'of the header and of each list that is written, what says its last value'
 
     def __init__(self, described, source):
@@ -155,7 +155,7 @@ class InNumbers(Form):
 
     def shape(self):
         at_end = ['‵ (fres (w .name) (T.the-row .coded .code (zs .0)))', 'tokens', *self.finals(), '‵ (N.the-row .own t (u ∷ []))']
-        return template('in_numbers', {
+        return template(self.TEXT, {
             'callee': self.callee, 'told': self.told, 'outcome': last_name(self.outcome), 'numbered': self.numbered, 'same': last_name(self.same), 'law': last_name(self.law),
             'said': self.said('(zs .0)', 'r'),
             'at_end': defined(2, 'at-end t u zs', consed(at_end)),
@@ -179,7 +179,7 @@ class InNumbers(Form):
         self.enters(steps)
         steps.note('header and lists are lent on')
         steps.note_had()
-        steps.step(f"assigns ! (addr ! {steps.behind('w')}) (from ! (stop !)) {steps.init('header passed', '(tt, tt)')}")
+        steps.step(f"assigns ! (addr ! {steps.behind('parameter w')}) (from ! (stop !)) {steps.init('header passed', '(tt, tt)')}")
         self.lends_lists(steps)
         steps.note(f'the call of `{self.callee}`')
         steps.front('entry')
