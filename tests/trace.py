@@ -3,8 +3,9 @@
 
 For whoever changes the trace or reads it as complete. The rows must stand under
 the paper's headings, verbatim and in the paper's order, with no empty cell and a
-known state. Prints 'N sentences traced' and exits 0, or says what is amiss and
-exits 1. --selftest breaks rows in memory, each of which must be noticed.
+known state. The files that docs/ADDING.md names by their whole path must be there
+too. Prints 'N sentences traced' and exits 0, or says what is amiss and exits 1.
+--selftest breaks rows in memory, each of which must be noticed.
 
 What a row cites:
 - A path must be a file or folder of the repository, from its root, from crates/
@@ -40,6 +41,9 @@ ROOT = os.path.dirname(os.path.dirname(os.path.abspath(__file__)))
 PAPERS = [os.path.join(ROOT, '..', 'shared', 'docs', name) for name in ('00-demands.md', '01-scope.md', '02-change-requests.md')]
 TRACE = os.path.join(ROOT, 'docs', 'TRACE.md')
 STATES = ('open', 'held', 'partly', 'told', 'informs')
+WALKS = os.path.join(ROOT, 'docs', 'ADDING.md')
+# what the walks of docs/ADDING.md add in their example, or leave open
+EXAMPLES = ('first_live', 'NAME', 'S-NN')
 TITLES = ['sentence', 'carried by', 'state']
 
 REQUEST = re.compile(r'(S-\d+\.) \*\*(.+?)\*\* (.*)')
@@ -263,13 +267,20 @@ def selftest(sentences, repository):
     return 1 if missed else 0
 
 
+def faults_of_walks(text):
+    """Files that docs/ADDING.md names and that are not there."""
+    named = re.findall(r'\b(?:bindings|crates|docs|examples|include|oracle|tests)/[\w./-]*\w', text)
+    return ['docs/ADDING.md names %s, which is not there' % path for path in sorted(set(named))
+            if not os.path.exists(os.path.join(ROOT, path)) and not any(example in path for example in EXAMPLES)]
+
+
 def main():
     sentences = [sentence for paper in PAPERS for sentence in sentences_of(paper)]
     repository = Repository(ROOT)
     if sys.argv[1:] == ['--selftest']:
         return selftest(sentences, repository)
     rows = list(rows_in(lines_of(TRACE)))
-    faults = faults_of(rows, sentences, repository)
+    faults = faults_of(rows, sentences, repository) + faults_of_walks('\n'.join(lines_of(WALKS)))
     for fault in faults:
         print(fault)
     if not faults:
