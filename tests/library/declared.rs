@@ -1,9 +1,11 @@
 //! The static library as a Rust caller declares it: as the wrapper does, and the host forms.
 
-#[allow(dead_code)] // a program need not ask for the version
 #[path = "../../bindings/rust/src/raw.rs"]
 mod raw;
 pub use raw::*;
+
+/// No program here asks for the version. Any other function that tests/robustness does not call is told as unused.
+const _: unsafe extern "C" fn() -> u32 = packet_window_version;
 
 /// What a host form gives back: a step without the header, which it has updated.
 #[repr(C)]
