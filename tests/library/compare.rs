@@ -56,7 +56,7 @@ impl Both {
             Call::Insert { sequence, .. } | Call::Exchange { sequence, .. } | Call::Remove(sequence) => {
                 vec![sequence as usize / 64 % count]
             }
-            _ => Vec::new(),
+            Call::New { .. } | Call::Get(_) | Call::SuccessorAfter(_) | Call::FirstFrom(_) | Call::Stranger { .. } | Call::Iter => Vec::new(),
         }
     }
 

@@ -60,6 +60,15 @@ pub fn has_host_form(call: Call) -> bool {
     matches!(call, Call::Insert { .. } | Call::Remove(_) | Call::ReleaseRetired(_))
 }
 
+/// Whether the call takes a return list. Every call is named, so that a new one is not left out.
+fn with_list(call: Call) -> bool {
+    match call {
+        Call::Insert { .. } | Call::RemoveRange { .. } | Call::ReleaseRetired(_) | Call::Clear | Call::ClearBounded(_) => true,
+        Call::New { .. } | Call::Get(_) | Call::Remove(_) | Call::SuccessorAfter(_) | Call::FirstFrom(_) => false,
+        Call::Exchange { .. } | Call::Stranger { .. } | Call::Iter => false,
+    }
+}
+
 /// The lent memory, with room past the named lengths.
 #[derive(Clone, PartialEq, Eq)]
 struct Lists {
@@ -204,11 +213,7 @@ impl Library {
     /// With one list one short: refusal 6, and nothing is written.
     pub fn short(&mut self, random: &mut Random, call: Call, host: bool) -> Result<(), String> {
         let mut lengths = self.lengths;
-        let with_list = matches!(
-            call,
-            Call::Insert { .. } | Call::RemoveRange { .. } | Call::ReleaseRetired(_) | Call::Clear | Call::ClearBounded(_)
-        );
-        match random.below(if with_list { 5 } else { 4 }) {
+        match random.below(if with_list(call) { 5 } else { 4 }) {
             list @ 0..=1 => lengths.cells[list as usize] -= 1,
             list @ 2..=3 => lengths.words[list as usize - 2] -= 1,
             _ => lengths.returned -= 1,
