@@ -16,7 +16,8 @@ What a row cites:
   must stand in the files and crates of the brackets that follow it, or, where
   none follow, in some crate, test or interface; an edit and a recorded file are
   named by their file.
-- A row that is open cites nothing but its request.
+- A row that is open cites nothing but its request, which has no note yet in
+  docs/requests.
 
 How a paper is split:
 - The papers have one paragraph or list item a line; '> ' and '- ' before it are
@@ -221,13 +222,23 @@ def faults_of_cell(repository, at, cell):
     return faults
 
 
+def faults_of_open(repository, at, cell):
+    request = re.fullmatch(r'request S-(\d+)', cell)
+    if not request:
+        return ['line %d of the trace: an open row cites its request alone' % at]
+    note = 'docs/requests/S-%02d.md' % int(request[1])
+    if repository.path_of(note, ''):
+        return ['line %d of the trace: open, and its request has landed (%s)' % (at, note)]
+    return []
+
+
 def faults_of(rows, sentences, repository):
     found = {row[2][0] for row in rows}
     faults = ['missing: under %r: %s' % s for s in sentences if s[1] not in found]
     for at, heading, cells in rows:
         wrong = faults_of_row(at, cells)
-        if not wrong and cells[2] == 'open' and not re.fullmatch(r'request S-\d+', cells[1]):
-            wrong = ['line %d of the trace: an open row cites its request alone' % at]
+        if not wrong and cells[2] == 'open':
+            wrong = faults_of_open(repository, at, cells[1])
         if not wrong and cells[2] not in ('open', 'informs'):
             wrong = faults_of_cell(repository, at, cells[1])
         faults += wrong

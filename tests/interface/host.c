@@ -36,8 +36,9 @@ static uint32_t below(uint32_t bound)
     return (uint32_t)((state >> 32) * bound >> 32);
 }
 
-/* How often each code was given, by the refusal's number if refused. */
-static unsigned given[8], refused[9];
+/* How often each code was given, and each refusal by its number. Room for more of both than there are. */
+#define MOST 64
+static unsigned given[MOST], refused[MOST];
 
 static packet_window_outcome keep(packet_window_step step)
 {
@@ -50,8 +51,9 @@ static packet_window_outcome keep(packet_window_step step)
 
 static int same(packet_window_outcome a, packet_window_outcome b)
 {
-    given[a.answer.code]++;
-    if (a.answer.code == PACKET_WINDOW_REFUSED)
+    if (a.answer.code < MOST)
+        given[a.answer.code]++;
+    if (a.answer.code == PACKET_WINDOW_REFUSED && a.answer.first < MOST)
         refused[a.answer.first]++;
     return memcmp(&a, &b, sizeof(a)) == 0 && memcmp(&host, &by_value, sizeof(host)) == 0;
 }
