@@ -15,7 +15,7 @@ give too (`stands`: header, block words, page words, cells in use), and the next
 words. So no theorem is long, and any call of any run can be asked, on any window, up to the kit's limit of steps for a
 theorem. Without the oracle only the first calls of each run are asked.
 
-What is asked is bounded by what it costs (COST). Runs on windows up to SMALL are asked whole, of the others some pieces.
+What is asked is bounded by what it costs (COST). Runs on windows up to SMALL are asked whole, of others some pieces (choose).
 
 To add
 - a letter: a row of LETTERS (and of NUMBERS, if it prints a number that is not `found`), and of COST if it searches. A new
@@ -52,13 +52,13 @@ HEADER = 'window_size n demote_at len retired_held release_cursor nonempty_summa
 # What the prover needs for a call, roughly, in thousandths of a second (cost_of): so much, and for a letter that searches so
 # much for each position of the window.
 CALL = 5
-COST = {'s': 0.35, 'f': 0.35, 'q': 0.1, 'd': 0.1, 'l': 0.02}
+COST = {'s': 0.35, 'f': 0.35, 'q': 0.35, 'd': 0.1, 'l': 0.02}
 PIECE = 80      # of a piece. Each change makes a window longer to read, so short pieces are cheaper by the call
 FIRST = 600     # of the one piece of a run, where no words are known
 LARGEST = 5000  # of a call; a costlier one is left out, since it would meet the kit's limit of steps
-SMALL = 256     # windows whose runs are asked whole, of the table too
-LEAST = 64      # those of which positions are asked too
-RUN = 150       # of a run on a larger window, costly calls apart
+RUN = 120       # of a run on a window above SMALL, costly calls apart
+SMALL = 256     # windows whose runs are asked whole, and of the table too
+SHORT = 100     # entries of such a run that is asked of positions too
 
 REPLAY = '''-- A run of the line program as a list of entries, and what the definitions make of it. Definitions only. Assumes nothing.
 use mathlib.Core.Bool.{Bool, true, false, cond, _&&_}
@@ -313,8 +313,8 @@ class Run:
         """The words after a line. A line that is no call leaves them."""
         return self.states[line - 1]
 
-    def whole(self):
-        return self.states is not None and self.capacity <= SMALL
+    def small(self):
+        return self.capacity <= SMALL
 
     def cost(self):
         return sum(entry.cost for piece in self.pieces for entry in piece)
@@ -346,7 +346,7 @@ def choose(runs):
     for run in runs:
         if run.states is None:
             run.pieces = [next(cut(run.entries, FIRST))]
-        elif run.whole():
+        elif run.small():
             run.pieces = list(cut(run.entries, PIECE))
         else:
             pieces = list(cut([few(entry, run, seen) for entry in run.entries], PIECE))
@@ -414,7 +414,7 @@ def module_of(name, run):
     module, named = Module(name), {}
     for number, piece in enumerate(run.pieces, 1):
         put_piece(module, 'piece-%d' % number, run, piece, named)
-    if run.whole():
+    if run.small():
         put_whole(module, run, ' ++ '.join('piece-%d' % number for number in range(1, len(run.pieces) + 1)))
     return module
 
@@ -444,7 +444,7 @@ def put_whole(module, run, whole):
     size = run.numbers[0]
     module.define('whole', 'List Entry', whole)
     module.prove('whole-by-table', '%s, by the plain table' % run.file, 'tableTells %s freshTable whole ≡ told whole' % size)
-    if run.capacity <= LEAST:
+    if len(run.entries) <= SHORT:
         module.prove('whole-by-positions', '%s, by positions' % run.file, 'placed %s freshPositions whole ≡ whole' % size)
 
 
@@ -544,12 +544,13 @@ def generated(path):
 
 
 def summary(runs, files, theorems, seconds):
-    asked = [entry for run in runs for piece in run.pieces for entry in piece]
-    whole = [run for run in runs if run.whole()]
-    return '%d calls and %d listings of %d files proved by %d theorems, words at %d places, windows up to %d; %d calls of them in %d whole runs, by the plain table too; %d s' % (
-        sum(entry.letter != 'l' for entry in asked), sum(entry.letter == 'l' for entry in asked), files, theorems,
-        sum(len(run.pieces) for run in runs if run.states), max(run.capacity for run in runs),
-        sum(len(run.entries) for run in whole), len(whole), seconds)
+    def count(runs):
+        return sum(len(piece) for run in runs for piece in run.pieces)
+    small = [run for run in runs if run.small()]
+    short = [run for run in small if len(run.entries) <= SHORT]
+    words = sum(len(run.pieces) for run in runs if run.states)
+    return '%d lines of %d files by the window, on sizes up to %d, with the words at %d places; %d of them by the table, %d by positions: %d theorems in %d s' % (
+        count(runs), files, max(run.capacity for run in runs), words, count(small), count(short), theorems, seconds)
 
 
 # ---- the test can fail
