@@ -20,9 +20,9 @@ What is asked is bounded by what it costs (COST). Runs on windows up to SMALL ar
 To add
 - a letter: a row of LETTERS (and of NUMBERS, if it prints a number that is not `found`), and of COST if it searches. A new
   answer: `answer_text`, and `printed` in REPLAY.
-- a field of the header: its name in HEADER, at its place in the oracle's line of words. A word of a block or a page:
-  `words_text` or `page_text`, and Block, PageWords and what reads them in REPLAY.
-- an argument of new: nothing but `asked` in REPLAY. A refusal, another definition: nothing.
+- a field of the header: its name in HEADER, at its place in the oracle's line of words. A word of a block: BLOCK. A word of a
+  page: `page_text`, and PageWords, pageWordsOf and pageOf in REPLAY.
+- an argument of new: `asked` and its clauses in REPLAY. A refusal or another definition: nothing.
 """
 import os
 import re
@@ -48,17 +48,18 @@ LETTERS = {
 NUMBERS = {'q': 'pair {} 0 0'}  # what a number says that a letter prints; `found` for the others
 # The header's fields in the order in which `oracle --words` prints them (oracle/src/state.rs).
 HEADER = 'window_size n demote_at len retired_held release_cursor nonempty_summary retired_blocks promotions demotions'.split()
+BLOCK = 3  # words of a block
 
 # What the prover needs for a call, roughly, in thousandths of a second (cost_of): so much, and for a letter that searches so
 # much for each position of the window.
 CALL = 5
 COST = {'s': 0.35, 'f': 0.35, 'q': 0.35, 'd': 0.1, 'l': 0.02}
 PIECE = 80      # of a piece. Each change makes a window longer to read, so short pieces are cheaper by the call
-FIRST = 600     # of the one piece of a run, where no words are known
-LARGEST = 5000  # of a call; a costlier one is left out, since it would meet the kit's limit of steps
-RUN = 120       # of a run on a window above SMALL, costly calls apart
+FIRST = 250     # of the one piece of a run, where no words are known
 SMALL = 256     # windows whose runs are asked whole, and of the table too
 SHORT = 100     # entries of such a run that is asked of positions too
+RUN = 120       # of a run on a larger window, costly calls apart
+LARGEST = 5000  # of a call there; a costlier one is left out, since it may meet the kit's limit of steps
 
 REPLAY = '''-- A run of the line program as a list of entries, and what the definitions make of it. Definitions only. Assumes nothing.
 use mathlib.Core.Bool.{Bool, true, false, cond, _&&_}
@@ -280,11 +281,11 @@ def entry_text(asked, said):
 def words_text(state):
     """A line of `oracle --words`."""
     header, blocks, pages = state.split('|')
-    numbers = header.split()
-    assert len(numbers) == len(HEADER), state
+    numbers, words = header.split(), blocks.split()
+    if len(numbers) != len(HEADER):
+        raise SystemExit('the oracle prints %d numbers of the header, HEADER has %d' % (len(numbers), len(HEADER)))
     fields = '; '.join('%s = %s' % ('«%s»' % name if '_' in name else name, number) for name, number in zip(HEADER, numbers))
-    words = blocks.split()
-    rows = ['block %s %s %s' % tuple(words[at:at + 3]) for at in range(0, len(words), 3)]
+    rows = ['block ' + ' '.join(words[at:at + BLOCK]) for at in range(0, len(words), BLOCK)]
     return 'words (record { %s }) %s %s' % (fields, listed(rows), listed(map(page_text, filter(None, pages.split(';')))))
 
 
@@ -390,7 +391,10 @@ def oracle(path, *options):
 def read(path):
     out = path.with_suffix('.out')
     answers = out.read_text().splitlines() if out.exists() else oracle(path)
-    return runs_of(path.name, path.read_bytes().split(b'\n'), answers, oracle(path, '--words') if ORACLE.exists() else None)
+    calls = path.read_bytes().removesuffix(b'\n').split(b'\n') if answers else []
+    if len(calls) != len(answers):
+        raise SystemExit('%s: %d lines of calls, %d of answers' % (path.name, len(calls), len(answers)))
+    return runs_of(path.name, calls, answers, oracle(path, '--words') if ORACLE.exists() else None)
 
 
 # ---- theorems
@@ -495,7 +499,8 @@ def lay_out(folder, crates):
 
 def prove(crates):
     """Whether all is proved, and what the prover says against it: module, theorem, message."""
-    subprocess.run(['rt', 'check', CRATES[-1]], cwd=ROOT, check=True, stdout=subprocess.DEVNULL)
+    if subprocess.run(['rt', 'check', CRATES[-1]], cwd=ROOT, stdout=subprocess.DEVNULL).returncode:
+        raise SystemExit('the crates of the definitions are not proved: rt check %s' % CRATES[-1])
     with tempfile.TemporaryDirectory() as folder:
         lay_out(Path(folder), crates)
         done = subprocess.run(['rt', 'check', *crates], cwd=folder, capture_output=True, text=True)
