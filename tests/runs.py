@@ -62,10 +62,10 @@ RUN = 120       # of a run on a larger window, costly calls apart
 LARGEST = 5000  # of a call there; a costlier one is left out, since it may meet the kit's limit of steps
 
 REPLAY = '''-- A run of the line program as a list of entries, and what the definitions make of it. Definitions only. Assumes nothing.
-use mathlib.Core.Bool.{Bool, true, false, cond, _&&_}
+use mathlib.Core.Bool.{Bool, true, false, _&&_}
 use mathlib.Core.Option.{Option, none, some}
 use mathlib.Core.List.{List, [], _∷_}
-use Prim.Native.Nat.{ℕ, zero, suc, _+_}
+use Prim.Native.Nat.{ℕ, zero, suc}
 use lib.Dec.{eqb}
 use Rattle.words.specs.Word.{isSet}
 use Rattle.window.specs.declared.AdaptiveReceiverPacketWindow.{AdaptiveReceiverPacketWindow}
