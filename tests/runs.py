@@ -512,7 +512,7 @@ def prove(crates):
 
 def difference(message):
     """Of a refused `refl` what the statement says and what the definitions compute, where they first differ."""
-    found = re.search(r'computed as far as they go, the two types differ only where one has `(.*?)` \(expected\).*? the other has `(.*?)` \(found\)', message)
+    found = re.search(r'computed as far as they go, the two types (?:differ only|first differ) where one has `(.*?)` \(expected\).*? the other has `(.*?)` \(found\)', message)
     return found and found.groups()
 
 
