@@ -4,6 +4,7 @@
   tests/windowlines.py recorded   recorded files, byte for byte
   tests/windowlines.py oracle     recorded and generated files, the same bytes in small writes, lines no program
                                   should be asked, and writes that fail
+  tests/windowlines.py traffic    call files made from real SRT connections (../shared/data/srt), as the oracle
 
 In the recorded files, and in the generated ones, every letter that the line parser knows is answered.
 """
@@ -19,6 +20,7 @@ PROGRAM = ROOT / "target/bin/windowlines"
 ORACLE = ROOT / "oracle/target/oracle"
 GENERATE = ROOT / "oracle/target/generate"
 RECORDED = ROOT / "tests/recorded"
+TRAFFIC = ROOT.parent / "shared/data/srt"
 PARSER = ROOT / "crates/line_text/src/lib.rt"
 GENERATED = 1050
 LONG = 10  # lists of 100,000 calls
@@ -185,7 +187,22 @@ def check_oracle():
     print(f"{calls} lines of {files} files, {GENERATED + LONG} of them generated, and {odd} odd inputs; {said}")
 
 
+def check_traffic():
+    files = sorted(TRAFFIC.glob("calls-*.in"))
+    calls = 0
+    for path in files:
+        data = path.read_bytes()
+        answers = run(ORACLE, data)
+        compare(path.name, run(PROGRAM, data), answers)
+        if b"?" in answers:
+            raise SystemExit(f"{path.name}: a line that is no call")
+        calls += len(split_at_line_feeds(data))
+    if len(files) < 16:
+        raise SystemExit(f"only {len(files)} files in ../shared/data/srt")
+    print(f"{calls} lines of {len(files)} files of real traffic")
+
+
 if __name__ == "__main__":
     if not PROGRAM.exists():
         subprocess.run(["rt", "check", "windowlines"], cwd=ROOT, check=True, stdout=subprocess.DEVNULL)
-    {"recorded": check_recorded, "oracle": check_oracle}[sys.argv[1]]()
+    {"recorded": check_recorded, "oracle": check_oracle, "traffic": check_traffic}[sys.argv[1]]()

@@ -2,7 +2,8 @@
 //!
 //! `soak FIRST LAST`: the seasons of these seeds. A season is one window and one pool of stores, and some shows. A packet takes a free
 //! store and enters the window; a store that comes back, by an answer or in a return list, is free again. After each show and its
-//! release visits every store must be free. `soak --self-test`: wrong ends of calls, each of which must be noticed.
+//! release visits every store must be free. `soak --self-test`: wrong ends of calls, each of which must be noticed. `soak --calls FILE ..`:
+//! files of calls for the line program, each on a window and a pool of its own.
 
 #[allow(dead_code)] // the line program's generator uses the rest
 #[path = "../../oracle/src/calls.rs"]
@@ -20,6 +21,7 @@ mod line;
 mod memory;
 #[allow(dead_code)]
 mod operations;
+mod replay;
 mod show;
 mod signals;
 
@@ -102,14 +104,25 @@ fn self_test() -> Result<String, String> {
     Ok(format!("a ledger told twice or never, and {} wrong ends of calls, each noticed", FAULTS.len()))
 }
 
+/// The calls of each file; every store is free after it.
+fn replayed(files: &[&str]) -> Result<String, String> {
+    let (mut mappings, mut tally) = (Mappings::default(), Tally::default());
+    for file in files {
+        tally.add(&replay::replay(file, &mut mappings)?);
+    }
+    let Tally { calls, inserted, removed, released, .. } = tally;
+    Ok(format!("{} files, {calls} calls: {inserted} stores entered, {removed} came back by remove, {released} in return lists, none twice and none never", files.len()))
+}
+
 fn run(arguments: &[String]) -> Result<String, String> {
     let words: Vec<&str> = arguments.iter().map(String::as_str).collect();
     let number = |word: &str| word.parse::<u64>().map_err(|_| format!("no number: {word}"));
     signals::watch("soak");
     let (first, last) = match words[..] {
         ["--self-test"] => return self_test(),
+        ["--calls", ref files @ ..] if !files.is_empty() => return replayed(files),
         [first, last] => (number(first)?, number(last)?),
-        _ => return Err("usage: soak FIRST LAST | --self-test".to_string()),
+        _ => return Err("usage: soak FIRST LAST | --calls FILE .. | --self-test".to_string()),
     };
     let (mut mappings, mut totals) = (Mappings::default(), Totals::default());
     for seed in first..=last {
