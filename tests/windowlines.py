@@ -1,7 +1,7 @@
 #!/usr/bin/env python3
 """The line program, as built, against recorded answers and against the oracle.
 
-  tests/windowlines.py recorded   recorded files, byte for byte
+  tests/windowlines.py recorded   recorded files and those of examples/lines, byte for byte
   tests/windowlines.py oracle     recorded and generated files, the same bytes in small writes, lines no program
                                   should be asked, and writes that fail
   tests/windowlines.py traffic    call files made from real SRT connections (../shared/data/srt), as the oracle
@@ -20,6 +20,7 @@ PROGRAM = ROOT / "target/bin/windowlines"
 ORACLE = ROOT / "oracle/target/oracle"
 GENERATE = ROOT / "oracle/target/generate"
 RECORDED = ROOT / "tests/recorded"
+EXAMPLES = ROOT / "examples/lines"
 TRAFFIC = ROOT.parent / "shared/data/srt"
 PARSER = ROOT / "crates/line_text/src/lib.rt"
 GENERATED = 1050
@@ -66,7 +67,8 @@ def demand_letters(answered, least):
 
 
 def recorded_inputs():
-    return sorted(path for path in RECORDED.glob("*.in") if not path.name.endswith(".large.in"))
+    recorded = sorted(path for path in RECORDED.glob("*.in") if not path.name.endswith(".large.in"))
+    return recorded + sorted(EXAMPLES.glob("*.in"))
 
 
 def check_recorded():
@@ -79,7 +81,7 @@ def check_recorded():
         answered.update(line[:1] for line in wanted.split(b"\n"))
         files += 1
         calls += len(split_at_line_feeds(data))
-    if files < 107:
+    if files < 110:
         raise SystemExit(f"only {files} recorded files")
     demand_letters(answered, 1)
     print(f"{calls} lines of {files} files")
