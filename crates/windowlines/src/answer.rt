@@ -1,16 +1,7 @@
 // One call and its line.
-use call_point::exchange::exchange;
-use call_point::insert::insert;
-use call_point::remove::remove;
-use call_read::first_from;
-use call_read::get;
 use call_read::iter;
-use call_read::stranger::stranger;
-use call_read::successor_after;
-use call_retire::clear::clear;
-use call_retire::clear_bounded::clear_bounded;
-use call_retire::release_retired::release_retired;
-use call_retire::remove_range::remove_range;
+use line_calls::Called;
+use line_calls::call;
 use line_output::put_line;
 use line_output::put_list;
 use line_output::put_unknown;
@@ -18,7 +9,6 @@ use line_text::Fields;
 use window::AdaptiveReceiverPacketWindow;
 use window::Created;
 use window::answers::Answer;
-use window::answers::Step;
 use window::memory::BLOCK_WORDS;
 use window::memory::PAGE_SLOTS;
 use window::memory::PAGE_WORDS;
@@ -33,93 +23,6 @@ pub const BLOCK_LIST: usize = BLOCK_WORDS;
 pub struct Answered {
     pub window: AdaptiveReceiverPacketWindow,
     pub at: usize,
-}
-
-// What a call did; Unknown for a letter that has none.
-pub enum Called {
-    Stepped(Step),
-    Unknown,
-}
-
-// d, b, v and c: the calls that remove a range, clear and release.
-fn range_call(
-    w: AdaptiveReceiverPacketWindow,
-    sequences: &mut [u32; 4096],
-    values: &mut [u32; 4096],
-    pages: &mut [u64; PAGE_LIST],
-    blocks: &mut [u64; BLOCK_LIST],
-    returned: &mut [u32; 384],
-    f: Fields,
-) -> Called {
-    let first = f.first;
-    let second = f.second;
-    let letter = f.letter;
-    match letter {
-        b'd' => Called::Stepped(remove_range(
-            w,
-            sequences,
-            values,
-            pages,
-            blocks,
-            returned,
-            first,
-            second,
-        )),
-        b'b' => Called::Stepped(clear_bounded(
-            w,
-            sequences,
-            values,
-            pages,
-            blocks,
-            returned,
-            first,
-        )),
-        b'v' => Called::Stepped(release_retired(
-            w,
-            sequences,
-            values,
-            pages,
-            blocks,
-            returned,
-            first,
-        )),
-        b'c' => Called::Stepped(clear(w, sequences, values, pages, blocks, returned)),
-        _ => Called::Unknown,
-    }
-}
-
-// The call of a letter other than n and l.
-fn call(
-    w: AdaptiveReceiverPacketWindow,
-    sequences: &mut [u32; 4096],
-    values: &mut [u32; 4096],
-    pages: &mut [u64; PAGE_LIST],
-    blocks: &mut [u64; BLOCK_LIST],
-    returned: &mut [u32; 384],
-    f: Fields,
-) -> Called {
-    let first = f.first;
-    let second = f.second;
-    let letter = f.letter;
-    match letter {
-        b'i' => Called::Stepped(insert(
-            w,
-            sequences,
-            values,
-            pages,
-            blocks,
-            returned,
-            first,
-            second,
-        )),
-        b'g' => Called::Stepped(get(w, sequences, values, pages, blocks, first)),
-        b'r' => Called::Stepped(remove(w, sequences, values, pages, blocks, first)),
-        b's' => Called::Stepped(successor_after(w, sequences, values, pages, blocks, first)),
-        b'f' => Called::Stepped(first_from(w, sequences, values, pages, blocks, first)),
-        b'e' => Called::Stepped(exchange(w, sequences, values, pages, blocks, first, second)),
-        b'q' => Called::Stepped(stranger(w, sequences, values, pages, blocks, first, second)),
-        _ => range_call(w, sequences, values, pages, blocks, returned, f),
-    }
 }
 
 // A line that is no call.

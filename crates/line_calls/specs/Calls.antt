@@ -1,0 +1,66 @@
+-- Which call a line makes, by its letter and fields. Document 01, 'The line program': "In this order they call new, insert, get, remove,
+-- successor_after, first_from, exchange, remove_range, stranger, clear_bounded, release_retired, clear, and iter from 0 until done."
+-- Definitions only. Assumes nothing.
+use mathlib.Core.Path.{_≡_}
+use mathlib.Core.Bool.{Bool, cond}
+use mathlib.Core.Option.{Option, none, some}
+use mathlib.Core.List.{List, []}
+use Prim.Native.Nat.{ℕ}
+use denote.Ref.{now}
+use lib.Dec.{leb, eqb}
+use lib.ListN.{length}
+use Rattle.line_text.specs.declared.Fields.{Fields}
+use Rattle.window.specs.declared.AdaptiveReceiverPacketWindow.{AdaptiveReceiverPacketWindow}
+use Rattle.window.specs.declared.answers.Step.{Step}
+use Rattle.window.specs.Memory.{Memory}
+use Rattle.window.specs.Lent.{Lent, foundIn, leftIn}
+use Rattle.model.specs.Calls.{Call, insert, exchange, remove, remove-range, clear, clear-bounded, release-retired, ask, get, successor-after, first-from, stranger}
+use Rattle.model.specs.Roles.{roleOf}
+use Rattle.model.specs.Contract.{State, Meets}
+use Rattle.call_base.specs.Answers.{stateOf, leftOf}
+use Rattle.line_calls.specs.declared.Called.{Called}
+use Rattle.line_calls.specs.declared.Called.the-variants.{Stepped, Unknown}
+
+-- d, b, v and c; `listed`: whether the return list has 384 places
+unfoldable pub rangeCallOf : Fields → Bool → Option Call
+rangeCallOf f listed =
+    cond (eqb (f .letter) 100) (some (remove-range (f .first) (f .second) listed))
+    (cond (eqb (f .letter) 98) (some (clear-bounded (f .first) listed))
+    (cond (eqb (f .letter) 118) (some (release-retired (f .first) listed))
+    (cond (eqb (f .letter) 99) (some (clear listed)) none)))
+
+-- i, g, r, s, f, e, q, then those; none for n and l, which make no one call, and for any other letter
+unfoldable pub callOf : Fields → Bool → Option Call
+callOf f listed =
+    cond (eqb (f .letter) 105) (some (insert (f .first) (f .second) listed))
+    (cond (eqb (f .letter) 103) (some (ask (get (f .first))))
+    (cond (eqb (f .letter) 114) (some (remove (f .first)))
+    (cond (eqb (f .letter) 115) (some (ask (successor-after (f .first))))
+    (cond (eqb (f .letter) 102) (some (ask (first-from (f .first))))
+    (cond (eqb (f .letter) 101) (some (exchange (f .first) (f .second)))
+    (cond (eqb (f .letter) 113) (some (ask (stranger (f .first) (f .second)))) (rangeCallOf f listed)))))))
+
+-- a return list as a call sees it: one that takes none sees an empty one
+abbrev pub taken : Option Bool → List ℕ → List ℕ
+taken none l = []
+taken (some b) l = l
+
+abbrev pub seenBy : Call → List ℕ → List ℕ
+seenBy c l = taken (roleOf c .listed) l
+
+-- a call that was made: it meets the contract of every call, and one without a return list leaves the program's as it was
+pub record Makes (c : Call) (u : State) (l : List ℕ) (s : Step) (m : Memory) (l′ : List ℕ) : Type 0 where
+  pub meets : Meets c u (seenBy c l) (leftOf s m (seenBy c l′))
+  pub apart : roleOf c .listed ≡ none → l′ ≡ l
+
+-- what a letter did: its call, or nothing where it has none
+abbrev pub Made : Option Call → State → List ℕ → Called → Memory → List ℕ → Type 0
+Made (some c) u l (Stepped s) m l′ = Makes c u l s m l′
+Made (some c) u l Unknown m l′ = ⊥
+Made none u l (Stepped s) m l′ = ⊥
+Made none u l Unknown m l′ = (m ≡ u .memory) × (l′ ≡ l)
+
+-- as a signature says it
+abbrev pub MadeBy : (Bool → Option Call) → AdaptiveReceiverPacketWindow → (sequences values pages blocks returned : Lent) → Called → Type 0
+MadeBy c w ss vs pages blocks l r =
+    Made (c (leb 384 (length (now (l .entry))))) (stateOf w (foundIn ss vs pages blocks)) (now (l .entry)) r (leftIn ss vs pages blocks) (now (l .exit))

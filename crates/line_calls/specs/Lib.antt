@@ -1,0 +1,2 @@
+-- The call that a line makes.
+pub mod Calls
