@@ -84,7 +84,10 @@ def picture(crates):
         for use in below:
             (x, y), (to_x, to_y) = at[name], at[use]
             from_y, to_y = y + HEIGHT / 2, to_y - HEIGHT / 2
-            parts.append(f'<path d="M{x:.0f} {from_y:.0f} C{x:.0f} {from_y + 30:.0f} {to_x:.0f} {to_y - 30:.0f} {to_x:.0f} {to_y:.0f}" '
+            # a line straight down past other rows goes round the boxes in its way
+            aside = WIDTH if to_y - from_y > ROW and abs(x - to_x) < WIDTH / 2 else 0
+            bend = (to_y - from_y) / 3 if aside else 30
+            parts.append(f'<path d="M{x:.0f} {from_y:.0f} C{x - aside:.0f} {from_y + bend:.0f} {to_x - aside:.0f} {to_y - bend:.0f} {to_x:.0f} {to_y:.0f}" '
                          'fill="none" stroke="#555555" stroke-width="1.2"/>')
     for name, (x, y) in at.items():
         colour = next(colour for prefix, colour in COLOURS if name.startswith(prefix))
