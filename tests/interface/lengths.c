@@ -1,6 +1,6 @@
 /*
- * The version of packet_window.h is the library's, and its macros hold for every window_size: they are document 01's lengths, packet_window_new takes lists of these lengths
- * and refuses one that is shorter. C99 and C++11.
+ * The version of packet_window.h is the library's. Its macros, for every window_size, are document 01's lengths: packet_window_new takes
+ * lists of these lengths and refuses one that is shorter. C99 and C++11.
  */
 #include "packet_window.h"
 
