@@ -6,6 +6,8 @@ use mathlib.Core.List.{List}
 use Prim.Native.Nat.{ℕ}
 use borrow.Author.Tests.{ne-eqb}
 use Rattle.line_text.specs.declared.Fields.{Fields}
+use Rattle.line_text.specs.Lines.{fieldCount, among}
+use Rattle.line_text.specs.Contracts.{saidBy}
 use Rattle.window.specs.declared.answers.Step.{Step}
 use Rattle.window.specs.Memory.{Memory}
 use Rattle.model.specs.Calls.{Call, insert, exchange, remove, remove-range, clear, clear-bounded, release-retired, ask, get, successor-after, first-from, stranger}
@@ -39,57 +41,57 @@ pub made-same : (o o′ : Option Call) (u : State) (l : List ℕ) (r : Called) (
 made-same o o′ u l r m l′ e t = subst (λ (x : Option Call). Made x u l r m l′) (sym e) t
 
 module _ (f : Fields) (b : Bool) where
-  pub is-d : f .letter ≡ 100 → rangeCallOf f b ≡ some (remove-range (f .first) (f .second) b)
-  unfolding rangeCallOf
+  pub is-d : f .letter ≡ 100 → rangeCallOf (saidBy f) b ≡ some (remove-range (f .first) (f .second) b)
+  unfolding rangeCallOf fieldCount among
   is-d e = rw e refl
 
-  pub is-b : f .letter ≡ 98 → rangeCallOf f b ≡ some (clear-bounded (f .first) b)
-  unfolding rangeCallOf
+  pub is-b : f .letter ≡ 98 → rangeCallOf (saidBy f) b ≡ some (clear-bounded (f .first) b)
+  unfolding rangeCallOf fieldCount among
   is-b e = rw e refl
 
-  pub is-v : f .letter ≡ 118 → rangeCallOf f b ≡ some (release-retired (f .first) b)
-  unfolding rangeCallOf
+  pub is-v : f .letter ≡ 118 → rangeCallOf (saidBy f) b ≡ some (release-retired (f .first) b)
+  unfolding rangeCallOf fieldCount among
   is-v e = rw e refl
 
-  pub is-c : f .letter ≡ 99 → rangeCallOf f b ≡ some (clear b)
-  unfolding rangeCallOf
+  pub is-c : f .letter ≡ 99 → rangeCallOf (saidBy f) b ≡ some (clear b)
+  unfolding rangeCallOf fieldCount among
   is-c e = rw e refl
 
-  pub is-none : (f .letter ≡ 100 → ⊥) → (f .letter ≡ 98 → ⊥) → (f .letter ≡ 118 → ⊥) → (f .letter ≡ 99 → ⊥) → rangeCallOf f b ≡ none
-  unfolding rangeCallOf
+  pub is-none : (f .letter ≡ 100 → ⊥) → (f .letter ≡ 98 → ⊥) → (f .letter ≡ 118 → ⊥) → (f .letter ≡ 99 → ⊥) → rangeCallOf (saidBy f) b ≡ none
+  unfolding rangeCallOf fieldCount among
   is-none d n v c = simp (ne-eqb (f .letter) 100 d, ne-eqb (f .letter) 98 n, ne-eqb (f .letter) 118 v, ne-eqb (f .letter) 99 c)
 
-  pub is-i : f .letter ≡ 105 → callOf f b ≡ some (insert (f .first) (f .second) b)
-  unfolding callOf
+  pub is-i : f .letter ≡ 105 → callOf (saidBy f) b ≡ some (insert (f .first) (f .second) b)
+  unfolding callOf fieldCount among
   is-i x = rw x refl
 
-  pub is-g : f .letter ≡ 103 → callOf f b ≡ some (ask (get (f .first)))
-  unfolding callOf
+  pub is-g : f .letter ≡ 103 → callOf (saidBy f) b ≡ some (ask (get (f .first)))
+  unfolding callOf fieldCount among
   is-g x = rw x refl
 
-  pub is-r : f .letter ≡ 114 → callOf f b ≡ some (remove (f .first))
-  unfolding callOf
+  pub is-r : f .letter ≡ 114 → callOf (saidBy f) b ≡ some (remove (f .first))
+  unfolding callOf fieldCount among
   is-r x = rw x refl
 
-  pub is-s : f .letter ≡ 115 → callOf f b ≡ some (ask (successor-after (f .first)))
-  unfolding callOf
+  pub is-s : f .letter ≡ 115 → callOf (saidBy f) b ≡ some (ask (successor-after (f .first)))
+  unfolding callOf fieldCount among
   is-s x = rw x refl
 
-  pub is-f : f .letter ≡ 102 → callOf f b ≡ some (ask (first-from (f .first)))
-  unfolding callOf
+  pub is-f : f .letter ≡ 102 → callOf (saidBy f) b ≡ some (ask (first-from (f .first)))
+  unfolding callOf fieldCount among
   is-f x = rw x refl
 
-  pub is-e : f .letter ≡ 101 → callOf f b ≡ some (exchange (f .first) (f .second))
-  unfolding callOf
+  pub is-e : f .letter ≡ 101 → callOf (saidBy f) b ≡ some (exchange (f .first) (f .second))
+  unfolding callOf fieldCount among
   is-e x = rw x refl
 
-  pub is-q : f .letter ≡ 113 → callOf f b ≡ some (ask (stranger (f .first) (f .second)))
-  unfolding callOf
+  pub is-q : f .letter ≡ 113 → callOf (saidBy f) b ≡ some (ask (stranger (f .first) (f .second)))
+  unfolding callOf fieldCount among
   is-q x = rw x refl
 
   pub is-range : (f .letter ≡ 105 → ⊥) → (f .letter ≡ 103 → ⊥) → (f .letter ≡ 114 → ⊥) → (f .letter ≡ 115 → ⊥) → (f .letter ≡ 102 → ⊥) → (f .letter ≡ 101 → ⊥)
-      → (f .letter ≡ 113 → ⊥) → callOf f b ≡ rangeCallOf f b
-  unfolding callOf
+      → (f .letter ≡ 113 → ⊥) → callOf (saidBy f) b ≡ rangeCallOf (saidBy f) b
+  unfolding callOf fieldCount among
   is-range i g r s t e q =
       simp (
         ne-eqb (f .letter) 105 i,

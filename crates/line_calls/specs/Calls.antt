@@ -2,14 +2,14 @@
 -- successor_after, first_from, exchange, remove_range, stranger, clear_bounded, release_retired, clear, and iter from 0 until done."
 -- Definitions only. Assumes nothing.
 use mathlib.Core.Path.{_≡_}
-use mathlib.Core.Bool.{Bool, cond}
+use mathlib.Core.Bool.{Bool, true, cond}
 use mathlib.Core.Option.{Option, none, some}
 use mathlib.Core.List.{List, []}
 use Prim.Native.Nat.{ℕ}
 use denote.Ref.{now}
 use lib.Dec.{leb, eqb}
-use lib.ListN.{length}
-use Rattle.line_text.specs.declared.Fields.{Fields}
+use lib.ListN.{length, getD}
+use Rattle.line_text.specs.Lines.{Line}
 use Rattle.window.specs.declared.AdaptiveReceiverPacketWindow.{AdaptiveReceiverPacketWindow}
 use Rattle.window.specs.declared.answers.Step.{Step}
 use Rattle.window.specs.Memory.{Memory}
@@ -21,24 +21,51 @@ use Rattle.call_base.specs.Answers.{stateOf, leftOf}
 use Rattle.line_calls.specs.declared.Called.{Called}
 use Rattle.line_calls.specs.declared.Called.the-variants.{Stepped, Unknown}
 
+-- the fields of a line, from the first on
+abbrev pub first : Line → ℕ
+first l = getD (l .fields) 0 0
+
+abbrev pub second : Line → ℕ
+second l = getD (l .fields) 1 0
+
+abbrev pub third : Line → ℕ
+third l = getD (l .fields) 2 0
+
 -- d, b, v and c; `listed`: whether the return list has 384 places
-unfoldable pub rangeCallOf : Fields → Bool → Option Call
-rangeCallOf f listed =
-    cond (eqb (f .letter) 100) (some (remove-range (f .first) (f .second) listed))
-    (cond (eqb (f .letter) 98) (some (clear-bounded (f .first) listed))
-    (cond (eqb (f .letter) 118) (some (release-retired (f .first) listed))
-    (cond (eqb (f .letter) 99) (some (clear listed)) none)))
+unfoldable pub rangeCallOf : Line → Bool → Option Call
+rangeCallOf l listed =
+    cond (eqb (l .letter) 100) (some (remove-range (first l) (second l) listed))
+    (cond (eqb (l .letter) 98) (some (clear-bounded (first l) listed))
+    (cond (eqb (l .letter) 118) (some (release-retired (first l) listed))
+    (cond (eqb (l .letter) 99) (some (clear listed)) none)))
 
 -- i, g, r, s, f, e, q, then those; none for n and l, which make no one call, and for any other letter
-unfoldable pub callOf : Fields → Bool → Option Call
-callOf f listed =
-    cond (eqb (f .letter) 105) (some (insert (f .first) (f .second) listed))
-    (cond (eqb (f .letter) 103) (some (ask (get (f .first))))
-    (cond (eqb (f .letter) 114) (some (remove (f .first)))
-    (cond (eqb (f .letter) 115) (some (ask (successor-after (f .first))))
-    (cond (eqb (f .letter) 102) (some (ask (first-from (f .first))))
-    (cond (eqb (f .letter) 101) (some (exchange (f .first) (f .second)))
-    (cond (eqb (f .letter) 113) (some (ask (stranger (f .first) (f .second)))) (rangeCallOf f listed)))))))
+unfoldable pub callOf : Line → Bool → Option Call
+callOf l listed =
+    cond (eqb (l .letter) 105) (some (insert (first l) (second l) listed))
+    (cond (eqb (l .letter) 103) (some (ask (get (first l))))
+    (cond (eqb (l .letter) 114) (some (remove (first l)))
+    (cond (eqb (l .letter) 115) (some (ask (successor-after (first l))))
+    (cond (eqb (l .letter) 102) (some (ask (first-from (first l))))
+    (cond (eqb (l .letter) 101) (some (exchange (first l) (second l)))
+    (cond (eqb (l .letter) 113) (some (ask (stranger (first l) (second l)))) (rangeCallOf l listed)))))))
+
+-- what a line asks for: n new, l "iter from 0 until done", another letter its call; nothing for a letter that has none
+pub data Command : Type 0 where
+  create : (size n demoteAt : ℕ) → Command
+  listing : Command
+  make : Call → Command
+  nothing : Command
+
+abbrev pub called : Option Call → Command
+called none = nothing
+called (some c) = make c
+
+-- the program's return list has 384 places
+unfoldable pub commandOf : Line → Command
+commandOf l =
+    cond (eqb (l .letter) 110) (create (first l) (second l) (third l))
+    (cond (eqb (l .letter) 108) listing (called (callOf l true)))
 
 -- a return list as a call sees it: one that takes none sees an empty one
 abbrev pub taken : Option Bool → List ℕ → List ℕ

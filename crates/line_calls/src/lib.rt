@@ -13,6 +13,7 @@ use call_retire::remove_range::remove_range;
 use line_text::Fields;
 use window::AdaptiveReceiverPacketWindow;
 use window::answers::Step;
+ghost use Rattle.line_text.specs.Contracts.{saidBy};
 ghost use Rattle.line_calls.specs.Calls.{rangeCallOf, callOf, MadeBy};
 
 // What a call did; Unknown for a letter that has none.
@@ -31,7 +32,7 @@ pub fn range_call(
     returned: &mut [u32],
     f: Fields,
 ) -> Called
-    ensures { λ r. ⌜ MadeBy (rangeCallOf f) w sequences values pages blocks returned r ⌝ }
+    ensures { λ r. ⌜ MadeBy (rangeCallOf (saidBy f)) w sequences values pages blocks returned r ⌝ }
 {
     let first = f.first;
     let second = f.second;
@@ -80,7 +81,7 @@ pub fn call(
     returned: &mut [u32],
     f: Fields,
 ) -> Called
-    ensures { λ r. ⌜ MadeBy (callOf f) w sequences values pages blocks returned r ⌝ }
+    ensures { λ r. ⌜ MadeBy (callOf (saidBy f)) w sequences values pages blocks returned r ⌝ }
 {
     let first = f.first;
     let second = f.second;

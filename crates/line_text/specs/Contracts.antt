@@ -6,6 +6,7 @@ use Prim.Native.Nat.{ℕ, _+_, _≤_, _<_}
 use lib.ListN.{length, getD, take}
 use Rattle.line_text.specs.declared.Read.{Read}
 use Rattle.line_text.specs.declared.Read.the-variants as field
+use Rattle.line_text.specs.declared.Fields.{Fields}
 use Rattle.line_text.specs.declared.Parsed.{Parsed}
 use Rattle.line_text.specs.declared.Parsed.the-variants as parsed
 use Rattle.line_text.specs.Lines.{Line, line, fieldCount}
@@ -24,8 +25,11 @@ fieldAnswer (field.Number n) = some n
 fieldAnswer field.Bad = none
 
 -- the fields that the letter takes
+abbrev pub saidBy : Fields → Line
+saidBy f = line (f .letter) (take (fieldCountOf (f .letter)) (f .first ∷ f .second ∷ f .third ∷ []))
+
 abbrev pub lineAnswer : Parsed → Option Line
-lineAnswer (parsed.Call f) = some (line (f .letter) (take (fieldCountOf (f .letter)) (f .first ∷ f .second ∷ f .third ∷ [])))
+lineAnswer (parsed.Call f) = some (saidBy f)
 lineAnswer parsed.Bad = none
 
 -- the first such byte from `from` on
