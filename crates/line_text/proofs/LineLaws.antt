@@ -15,29 +15,14 @@ use borrow.Author.Tests.{eq-eqb, ne-eqb}
 use Rattle.line_text.specs.Fields.{fieldOf}
 use Rattle.line_text.specs.Lines.{Line, line, joined, parts, both, numbers, among, fieldCount, counted, ofParts, lineOf}
 use Rattle.line_text.specs.Contracts.{countOr4, fieldCountOf, NextByte}
-
--- the parts after a part that ends where the bytes begin
-abbrev pub after : List ℕ → List (List ℕ)
-after [] = []
-after (b ∷ bs) = parts bs
-
--- the first part ends at the first tab, or with the bytes
-first-part : (bs : List ℕ) (k : ℕ) → k ≤ length bs → ((j : ℕ) → j < k → getD bs j 0 ≡ 9 → ⊥) → (k < length bs → getD bs k 0 ≡ 9)
-    → parts bs ≡ take k bs ∷ after (drop k bs)
-unfolding parts
-first-part [] zero l n f = refl
-first-part [] (suc k) l n f = absurd (omega arith)
-first-part (b ∷ bs) zero l n f = rw (parts, eq-eqb b 9 (f (omega arith))) refl
-first-part (b ∷ bs) (suc k) l n f =
-    rw (parts, ne-eqb b 9 (n 0 (omega arith)))
-    (ap (joined b) (first-part bs k (omega arith) (λ j a. n (suc j) (omega arith)) (λ a. f (omega arith))))
+use Rattle.line_text.proofs.PartLaws.{after, first-part, at-separator, at-another, parts-some}
 
 -- the numbers of the fields after a part that ends where the bytes begin; none if they do not begin with a tab
 unfoldable pub fieldsAfter : List ℕ → Option (List ℕ)
 fieldsAfter [] = some []
-fieldsAfter (b ∷ bs) = elim (eqb b 9) [ true ↦ numbers (parts bs) | false ↦ none ]
+fieldsAfter (b ∷ bs) = elim (eqb b 9) [ true ↦ numbers (parts 9 bs) | false ↦ none ]
 
-at-tab : (b : ℕ) (bs : List ℕ) → b ≡ 9 → fieldsAfter (b ∷ bs) ≡ numbers (parts bs)
+at-tab : (b : ℕ) (bs : List ℕ) → b ≡ 9 → fieldsAfter (b ∷ bs) ≡ numbers (parts 9 bs)
 unfolding fieldsAfter
 at-tab b bs e = rw (fieldsAfter, eq-eqb b 9 e) refl
 
@@ -45,16 +30,16 @@ at-other : (b : ℕ) (bs : List ℕ) → (b ≡ 9 → ⊥) → fieldsAfter (b �
 unfolding fieldsAfter
 at-other b bs e = rw (fieldsAfter, ne-eqb b 9 e) refl
 
-fields-after : (bs : List ℕ) → (0 < length bs → getD bs 0 0 ≡ 9) → numbers (after bs) ≡ fieldsAfter bs
+fields-after : (bs : List ℕ) → (0 < length bs → getD bs 0 0 ≡ 9) → numbers (after 9 bs) ≡ fieldsAfter bs
 unfolding fieldsAfter numbers
 fields-after [] f = refl
 fields-after (b ∷ bs) f = sym (at-tab b bs (f (omega arith)))
 
 -- with the first field apart
 first-field : (bs : List ℕ) (k : ℕ) → k ≤ length bs → ((j : ℕ) → j < k → getD bs j 0 ≡ 9 → ⊥) → (k < length bs → getD bs k 0 ≡ 9)
-    → numbers (parts bs) ≡ both (fieldOf (take k bs)) (numbers (after (drop k bs)))
+    → numbers (parts 9 bs) ≡ both (fieldOf (take k bs)) (numbers (after 9 (drop k bs)))
 unfolding numbers
-first-field bs k l n f = ap numbers (first-part bs k l n f)
+first-field bs k l n f = ap numbers (first-part 9 bs k l n f)
 
 -- the numbers ns, then those
 abbrev pub prefixed : List ℕ → Option (List ℕ) → Option (List ℕ)
@@ -114,17 +99,9 @@ joined-long : (b c : ℕ) (ps : List (List ℕ)) → ofParts (joined b (joined c
 joined-long b c [] = refl
 joined-long b c (p ∷ ps) = refl
 
-parts-tab : (b : ℕ) (bs : List ℕ) → b ≡ 9 → parts (b ∷ bs) ≡ [] ∷ parts bs
-unfolding parts
-parts-tab b bs e = rw (parts, eq-eqb b 9 e) refl
-
-parts-other : (b : ℕ) (bs : List ℕ) → (b ≡ 9 → ⊥) → parts (b ∷ bs) ≡ joined b (parts bs)
-unfolding parts
-parts-other b bs e = rw (parts, ne-eqb b 9 e) refl
-
 tab-first : (b : ℕ) (bs : List ℕ) → b ≡ 9 → restOf b [] bs ≡ lineOf (b ∷ bs)
 unfolding restOf lineOf fieldCount among
-tab-first b bs e = rw (parts-tab b bs e, e) refl
+tab-first b bs e = rw (at-separator 9 b bs e, e) refl
 
 letter-only : (b : ℕ) → (b ≡ 9 → ⊥) → restOf b [] [] ≡ lineOf (b ∷ [])
 unfolding restOf lineOf fieldsAfter numbers parts
@@ -135,8 +112,8 @@ unfolding restOf lineOf
 letter-first b [] e = letter-only b e
 letter-first b (c ∷ bs) e =
     elim (ℕ-discrete c 9) [
-      | yes q ↦ rw (parts-other b (c ∷ bs) e, parts-tab c bs q, at-tab c bs q) (ap (counted b (fieldCount b)) (prefixed-none (numbers (parts bs))))
-      | no q ↦ rw (parts-other b (c ∷ bs) e, parts-other c bs q, at-other c bs q) (counted-none b (fieldCount b) ∙ sym (joined-long b c (parts bs)))
+      | yes q ↦ rw (at-another 9 b (c ∷ bs) e, at-separator 9 c bs q, at-tab c bs q) (ap (counted b (fieldCount b)) (prefixed-none (numbers (parts 9 bs))))
+      | no q ↦ rw (at-another 9 b (c ∷ bs) e, at-another 9 c bs q, at-other c bs q) (counted-none b (fieldCount b) ∙ sym (joined-long b c (parts 9 bs)))
     ]
 
 pub begins : (bs : List ℕ) → 0 < length bs → restOf (getD bs 0 0) [] (drop 1 bs) ≡ lineOf bs
@@ -158,31 +135,15 @@ drop-all zero (b ∷ bs) l = absurd (omega arith)
 drop-all (suc a) [] l = refl
 drop-all (suc a) (b ∷ bs) l = drop-all a bs (omega arith)
 
--- bytes have one part at least
+-- a field too many
 some-part : (b : ℕ) (ns : List ℕ) (ps : List (List ℕ)) → 0 < length ps → length ns ≡ fieldCountOf b
     → counted b (fieldCount b) (prefixed ns (numbers ps)) ≡ none
 unfolding numbers
 some-part b ns [] l h = absurd (omega arith)
 some-part b ns (p ∷ ps) l h = counted-more b (fieldCount b) ns (fieldOf p) (numbers ps) h
 
-joined-some : (b : ℕ) (ps : List (List ℕ)) → 0 < length (joined b ps)
-joined-some b [] = omega arith
-joined-some b (p ∷ ps) = omega arith
-
-no-bytes : 0 < length (parts [])
-unfolding parts
-no-bytes = omega arith
-
-parts-some : (bs : List ℕ) → 0 < length (parts bs)
-parts-some [] = no-bytes
-parts-some (b ∷ bs) =
-    elim (ℕ-discrete b 9) [
-      | yes e ↦ rw (parts-tab b bs e) (omega arith)
-      | no e ↦ rw (parts-other b bs e) (joined-some b (parts bs))
-    ]
-
-more-fields : (b : ℕ) (ns bs : List ℕ) → length ns ≡ fieldCountOf b → counted b (fieldCount b) (prefixed ns (numbers (parts bs))) ≡ none
-more-fields b ns bs h = some-part b ns (parts bs) (parts-some bs) h
+more-fields : (b : ℕ) (ns bs : List ℕ) → length ns ≡ fieldCountOf b → counted b (fieldCount b) (prefixed ns (numbers (parts 9 bs))) ≡ none
+more-fields b ns bs h = some-part b ns (parts 9 bs) (parts-some 9 bs) h
 
 -- what the rest says, by how it begins
 module _ (b : ℕ) (ns bs : List ℕ) (a : ℕ) where
@@ -213,12 +174,12 @@ module _ (bs : List ℕ) (a e : ℕ) (l : a < length bs) (t : getD bs a 0 ≡ 9)
       let k : a + 1 + (e - (a + 1)) ≡ e = omega (arith, n .from-le) in
       let d : drop (e - (a + 1)) (drop (a + 1) bs) ≡ drop e bs = drop-drop (e - (a + 1)) (a + 1) bs ∙ ap (λ (m : ℕ). drop m bs) k in
       ap fieldsAfter (drop-cons bs a 0 l) ∙ at-tab (getD bs a 0) (drop (suc a) bs) t
-      ∙ ap (λ (m : ℕ). numbers (parts (drop m bs))) (sym (add-one a))
+      ∙ ap (λ (m : ℕ). numbers (parts 9 (drop m bs))) (sym (add-one a))
       ∙ first-field (drop (a + 1) bs) (e - (a + 1))
       (rw (length-drop (a + 1) bs) (omega (arith, n .le-length)))
       (λ j h. rw (getD-drop (a + 1) bs j 0) (n .before (a + 1 + j) (omega arith) (omega arith)))
       (λ h. rw (getD-drop (a + 1) bs (e - (a + 1)) 0, k) (n .found (omega (arith, length-drop (a + 1) bs))))
-      ∙ ap (λ (r : List ℕ). both (fieldOf (take (e - (a + 1)) (drop (a + 1) bs))) (numbers (after r))) d
+      ∙ ap (λ (r : List ℕ). both (fieldOf (take (e - (a + 1)) (drop (a + 1) bs))) (numbers (after 9 r))) d
       ∙ ap (both (fieldOf (take (e - (a + 1)) (drop (a + 1) bs))))
       (fields-after (drop e bs) (λ h. rw (getD-drop e bs 0 0, add-zero e) (n .found (omega (arith, length-drop e bs)))))
 

@@ -13,10 +13,23 @@ abbrev pub joined : ℕ → List (List ℕ) → List (List ℕ)
 joined b [] = (b ∷ []) ∷ []
 joined b (p ∷ ps) = (b ∷ p) ∷ ps
 
--- "fields parted by tabs": the bytes up to the first tab, and the same of what comes after it
-unfoldable pub parts : List ℕ → List (List ℕ)
-parts [] = [] ∷ []
-parts (b ∷ bs) = elim (eqb b 9) [ true ↦ [] ∷ parts bs | false ↦ joined b (parts bs) ]
+-- bytes parted by a byte: those up to the first such byte, and the same of what comes after it
+unfoldable pub parts : ℕ → List ℕ → List (List ℕ)
+parts sep [] = [] ∷ []
+parts sep (b ∷ bs) = elim (eqb b sep) [ true ↦ [] ∷ parts sep bs | false ↦ joined b (parts sep bs) ]
+
+-- "Lines end in a line feed; the last of the input may lack it." The lines of an input that have ended, of its parts by line feeds: all
+-- but the last
+unfoldable pub ended : List (List ℕ) → List (List ℕ)
+ended [] = []
+ended (p ∷ []) = []
+ended (p ∷ q ∷ ps) = p ∷ ended (q ∷ ps)
+
+-- what has come of the next: the last part
+unfoldable pub waiting : List (List ℕ) → List ℕ
+waiting [] = []
+waiting (p ∷ []) = p
+waiting (p ∷ q ∷ ps) = waiting (q ∷ ps)
 
 abbrev pub both : Option ℕ → Option (List ℕ) → Option (List ℕ)
 both none rest = none
@@ -65,5 +78,6 @@ ofParts ([] ∷ ps) = none
 ofParts ((b ∷ []) ∷ ps) = counted b (fieldCount b) (numbers ps)
 ofParts ((b ∷ c ∷ bs) ∷ ps) = none
 
+-- "fields parted by tabs"
 unfoldable pub lineOf : List ℕ → Option Line
-lineOf bytes = ofParts (parts bytes)
+lineOf bytes = ofParts (parts 9 bytes)
