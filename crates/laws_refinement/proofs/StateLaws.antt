@@ -62,7 +62,7 @@ module _ (c : Call) (u : State) (l : List ℕ) (r : Left) (m : Meets c u l r) (f
 -- ---- one step
 
 -- the same limits and lengths fit as well
-fits-same : (h k : AdaptiveReceiverPacketWindow) (m n : Memory) → limitsOf k ≡ limitsOf h → SameLengths m n
+pub fits-same : (h k : AdaptiveReceiverPacketWindow) (m n : Memory) → limitsOf k ≡ limitsOf h → SameLengths m n
     → fits k (length (n .sequences)) (length (n .values)) (length (n .pages)) (length (n .blocks))
     ≡ fits h (length (m .sequences)) (length (m .values)) (length (m .pages)) (length (m .blocks))
 unfolding fits

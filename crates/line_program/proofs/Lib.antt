@@ -1,0 +1,3 @@
+-- The line program on slices.
+pub mod KeptLaws
+pub mod AnswerLaws

@@ -1,0 +1,66 @@
+-- What the functions of the line program leave. Definitions only. Assumes nothing.
+use mathlib.Core.Path.{_≡_}
+use mathlib.Core.Bool.{true, cond}
+use mathlib.Core.Option.{Option, none}
+use mathlib.Core.List.{List, [], _∷_, _++_}
+use Prim.Native.Nat.{ℕ, _+_, _-_, _≤_, _<_}
+use denote.Ref.{now}
+use lib.Dec.{ltb}
+use lib.ListN.{length, take, drop}
+use Rattle.line_text.specs.Lines.{Line, lineOf, parts, ended, waiting}
+use Rattle.line_text.specs.PrintContracts.{Puts}
+use Rattle.window.specs.declared.AdaptiveReceiverPacketWindow.{AdaptiveReceiverPacketWindow}
+use Rattle.window.specs.Lent.{Lent, foundIn, leftIn}
+use Rattle.model.specs.Window.{Window}
+use Rattle.model.specs.Sound.{Sound}
+use Rattle.model.specs.Contract.{State, windowOf, lengthsFit}
+use Rattle.call_base.specs.Answers.{stateOf}
+use Rattle.line_program.specs.Program.{keptOf, Printed, linesDo}
+use Rattle.line_program.specs.declared.answer.Answered.{Answered}
+use Rattle.line_program.specs.declared.Program.{Program}
+
+-- what the program keeps between lines: once an n is accepted, a sound window with lists as long as it names them
+pub record Kept (u : State) : Type 0 where
+  pub fit : 0 < u .header .«window_size» → lengthsFit u ≡ true
+  pub sound : 0 < u .header .«window_size» → Sound (windowOf u)
+
+-- a line was answered as p says: its bytes stand from `at` on, and r is the place after them
+pub record Answers (p : Printed) (u′ : State) (at : ℕ) (out : List ℕ) (r : ℕ) (out′ : List ℕ) : Type 0 where
+  pub kept : Kept u′
+  pub after : keptOf u′ ≡ p .after
+  pub puts : Puts at (p .bytes) out r out′
+
+-- as a signature says it
+abbrev pub AnswersBy : (Window → Printed) → AdaptiveReceiverPacketWindow → (sequences values pages blocks out : Lent) → ℕ → Answered → Type 0
+AnswersBy p w ss vs pages blocks out at r =
+    Answers (p (keptOf (stateOf w (foundIn ss vs pages blocks)))) (stateOf (r .window) (leftIn ss vs pages blocks)) at (now (out .entry)) (r .at) (now (out .exit))
+
+-- ---- a line that comes in parts
+
+-- the first n bytes of a line, as document 01 reads them; nothing if more came than the line has places for
+unfoldable pub gathered : List ℕ → ℕ → Option Line
+gathered line n = cond (ltb (length line) n) none (lineOf (take n line))
+
+-- the bytes b have come of a line, and no line feed in them: they stand in its places, or are more than these; a line feed is 10
+pub record Holds (line : List ℕ) (n : ℕ) (b : List ℕ) : Type 0 where
+  pub whole : parts 10 b ≡ b ∷ []
+  pub short : length b ≤ length line → (n ≡ length b) × (take n line ≡ b)
+  pub long : length line < length b → n ≡ length line + 1
+
+-- ---- a part of the input
+
+-- `taken` came of the input after the bytes b of a line, in state u: each line that ended was answered, the rest waits
+pub record Takes (u : State) (b taken : List ℕ) (at : ℕ) (out : List ℕ) (r : Program) (line′ : List ℕ) (u′ : State) (out′ : List ℕ) : Type 0 where
+  pub answers : Answers (linesDo (keptOf u) (ended (parts 10 (b ++ taken)))) u′ at out (r .at) out′
+  pub waits : Holds line′ (r .length) (waiting (parts 10 (b ++ taken)))
+
+-- the bytes of `part` from `from` up to `to`
+abbrev pub between : ℕ → ℕ → List ℕ → List ℕ
+between from to part = take (to - from) (drop from part)
+
+-- as a signature says it; `part`, `line` and the others are as p found them and r left them
+abbrev pub TakesBy : Program → List ℕ → (line sequences values pages blocks out : Lent) → Program → Type 0
+TakesBy p part line ss vs pages blocks out r =
+    (b : List ℕ) → Holds (now (line .entry)) (p .length) b
+    → Takes (stateOf (p .window) (foundIn ss vs pages blocks)) b (between (p .from) (r .from) part) (p .at) (now (out .entry)) r
+    (now (line .exit)) (stateOf (r .window) (leftIn ss vs pages blocks)) (now (out .exit))
