@@ -18,7 +18,7 @@ unfoldable pub restOf : ℕ → List ℕ → Option ℕ
 restOf n bs = cond (allDigits bs && leb (numberFrom n bs) 4294967295) (some (numberFrom n bs)) none
 
 -- more digits write no smaller number
-grows : (n : ℕ) (bs : List ℕ) → n ≤ numberFrom n bs
+pub grows : (n : ℕ) (bs : List ℕ) → n ≤ numberFrom n bs
 unfolding numberFrom
 grows n [] = le-refl n
 grows n (b ∷ bs) = omega (arith, grows (n * 10 + (b - 48)) bs)
@@ -47,7 +47,7 @@ starts (b ∷ []) l e = refl
 starts (b ∷ c ∷ bs) l e = simp (ne-eqb b 48 e)
 
 -- with one byte before the rest
-low-byte : (n b : ℕ) (bs : List ℕ) → b < 48 → restOf n (b ∷ bs) ≡ none
+pub low-byte : (n b : ℕ) (bs : List ℕ) → b < 48 → restOf n (b ∷ bs) ≡ none
 unfolding restOf allDigits
 low-byte n b bs l = rw (lt-leb 48 b l) refl
 
@@ -63,11 +63,12 @@ and-false : (t : Bool) → t && false ≡ false
 and-false true = refl
 and-false false = refl
 
-above : (n : ℕ) (bs : List ℕ) → 4294967295 < n → restOf n bs ≡ none
+pub too-large : (n : ℕ) (bs : List ℕ) → 4294967295 < numberFrom n bs → restOf n bs ≡ none
 unfolding restOf
-above n bs l =
-    let g : 4294967295 < numberFrom n bs = omega (arith, grows n bs) in
-    rw (lt-leb (numberFrom n bs) 4294967295 g, and-false (allDigits bs)) refl
+too-large n bs g = rw (lt-leb (numberFrom n bs) 4294967295 g, and-false (allDigits bs)) refl
+
+above : (n : ℕ) (bs : List ℕ) → 4294967295 < n → restOf n bs ≡ none
+above n bs l = too-large n bs (omega (arith, grows n bs))
 
 module _ (bs : List ℕ) (n i : ℕ) (h : i < length bs) where
   pub low : getD bs i 0 < 48 → restOf n (drop i bs) ≡ none

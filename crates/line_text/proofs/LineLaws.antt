@@ -63,7 +63,7 @@ counted-none : (b : ℕ) (o : Option ℕ) → counted b o none ≡ none
 counted-none b none = refl
 counted-none b (some k) = refl
 
-counted-other : (b : ℕ) (o : Option ℕ) (ns : List ℕ) → (length ns ≡ countOr4 o → ⊥) → counted b o (some ns) ≡ none
+pub counted-other : (b : ℕ) (o : Option ℕ) (ns : List ℕ) → (length ns ≡ countOr4 o → ⊥) → counted b o (some ns) ≡ none
 counted-other b none ns e = refl
 counted-other b (some k) ns e = rw (ne-eqb (length ns) k e) refl
 
@@ -88,7 +88,7 @@ none-of-four false false true v l = absurd (omega arith)
 none-of-four false false false true l = absurd (omega arith)
 none-of-four false false false false l = refl
 
-unknown : (b : ℕ) → 3 < fieldCountOf b → fieldCount b ≡ none
+pub unknown : (b : ℕ) → 3 < fieldCountOf b → fieldCount b ≡ none
 unfolding fieldCount
 unknown b l =
     none-of-four (among b (110 ∷ [])) (among b (105 ∷ 101 ∷ 100 ∷ 113 ∷ []))
