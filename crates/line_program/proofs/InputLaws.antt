@@ -1,0 +1,168 @@
+-- The input in parts: the bytes of a line that have come, the line that they make, and the lines that end in a part. Assumes nothing.
+use mathlib.Core.Path.{_≡_, refl, sym, ap, subst, _∙_}
+use mathlib.Core.Bool.{true, false}
+use mathlib.Core.Option.{none}
+use mathlib.Core.List.{List, [], _∷_, _++_, append-assoc, append-nil}
+use Prim.Native.Nat.{ℕ, zero, suc, _+_, _-_, _≤_, _<_}
+use native.Mathlib.Omega.{arith}
+use lib.Dec.{ltb}
+use lib.ListN.{length, getD, take, drop, length-append, length-drop}
+use lib.Seq.{take-suc, take-add, drop-drop, getD-drop}
+use borrow.Author.Tests.{ltb-true, ltb-false, lt-ltb, le-ltb}
+use Rattle.words.proofs.CaseLaws.{bool}
+use Rattle.line_text.specs.Lines.{Line, lineOf, parts, ended, waiting}
+use Rattle.line_text.specs.PrintContracts.{Puts}
+use Rattle.line_text.specs.Contracts.{NextByte, Appends}
+use Rattle.line_text.proofs.PartLaws.{no-bytes, sliced, goes-on, ends-part, parts-ended, parts-waiting}
+use Rattle.line_text.proofs.LongLaws.{long-line}
+use Rattle.line_text.proofs.PrintLaws.{put-none, put-then}
+use Rattle.model.specs.Window.{Window}
+use Rattle.model.specs.Contract.{State}
+use Rattle.line_program.specs.declared.Program.{Program}
+use Rattle.line_program.specs.Program.{keptOf, Printed, printed, lineDoes, linesDo, unlessEmpty, linesOf, saidLine}
+use Rattle.line_program.specs.Contracts.{Kept, Answers, gathered, Holds, Takes, between}
+
+-- ---- the bytes of a line that have come
+
+pub holds-none : (line : List ℕ) → Holds line 0 []
+holds-none line = record { whole = no-bytes 10; short = λ l. (refl, refl); long = λ l. absurd (omega arith) }
+
+pub holds-more : (line : List ℕ) (n : ℕ) (b part : List ℕ) (r : ℕ) (line′ : List ℕ) → Holds line n b → Appends line n part r line′ → parts 10 part ≡ part ∷ []
+    → length line′ ≡ length line → Holds line′ r (b ++ part)
+holds-more line n b part r line′ h a w e =
+    let both = length-append b part in
+    record {
+      whole = goes-on 10 b part (h .whole) w;
+      short = λ l.
+          let s = h .short (omega (arith, both)) in
+          let p = a .kept (omega (arith, both, s .0)) in
+          (omega (arith, both, s .0, p .end), p .filled ∙ ap (λ (x : List ℕ). x ++ part) (s .1));
+      long = λ l.
+          bool (ltb (length line) (length b))
+          (λ t. a .long (omega (arith, h .long (ltb-true (length line) (length b) t))) ∙ ap (λ (k : ℕ). k + 1) (sym e))
+          (λ t. a .long (omega (arith, both, h .short (ltb-false (length line) (length b) t) .0)) ∙ ap (λ (k : ℕ). k + 1) (sym e));
+    }
+
+-- they say what the line of them says
+pub holds-says : (line : List ℕ) (n : ℕ) (b : List ℕ) → length line ≡ 64 → Holds line n b → gathered line n ≡ lineOf b
+unfolding gathered
+holds-says line n b e h =
+    bool (ltb (length line) (length b))
+    (λ t.
+    let l = ltb-true (length line) (length b) t in
+    rw (lt-ltb (length line) n (omega (arith, h .long l))) (sym (long-line b (omega arith))))
+    (λ t.
+    let s = h .short (ltb-false (length line) (length b) t) in
+    rw (le-ltb (length line) n (omega (arith, s .0, ltb-false (length line) (length b) t))) (ap lineOf (s .1)))
+
+pub line-said : (k : Window) (line : List ℕ) (n : ℕ) (b : List ℕ) → length line ≡ 64 → Holds line n b → saidLine k (gathered line n) ≡ lineDoes k b
+unfolding lineDoes
+line-said k line n b e h = ap (saidLine k) (holds-says line n b e h)
+
+-- ---- line after line
+
+pub lines-one : (k : Window) (l : List ℕ) → linesDo k (l ∷ []) ≡ lineDoes k l
+unfolding linesDo
+lines-one k l = ap (printed (lineDoes k l .after)) (append-nil (lineDoes k l .bytes))
+
+pub lines-on : (k : Window) (xs ys : List (List ℕ)) → let p = linesDo k xs in let q = linesDo (p .after) ys in linesDo k (xs ++ ys) ≡ printed (q .after) (p .bytes ++ q .bytes)
+unfolding linesDo
+lines-on k [] ys = refl
+lines-on k (x ∷ xs) ys =
+    let a = lineDoes k x in
+    let p = linesDo (a .after) xs in
+    let q = linesDo (p .after) ys in
+    ap (λ (r : Printed). printed (r .after) (a .bytes ++ r .bytes)) (lines-on (a .after) xs ys)
+    ∙ ap (printed (q .after)) (sym (append-assoc (a .bytes) (p .bytes) (q .bytes)))
+
+-- one line answered, then others
+pub answers-on : (k : Window) (xs ys : List (List ℕ)) (u v : State) (at m r : ℕ) (out₀ out₁ out : List ℕ) → Answers (linesDo k xs) u at out₀ m out₁
+    → Answers (linesDo (keptOf u) ys) v m out₁ r out → Answers (linesDo k (xs ++ ys)) v at out₀ r out
+answers-on k xs ys u v at m r out₀ out₁ out a b =
+    let same : linesDo (keptOf u) ys ≡ linesDo (linesDo k xs .after) ys = ap (λ (w : Window). linesDo w ys) (a .after) in
+    let c = subst (λ (p : Printed). Answers p v m out₁ r out) same b in
+    subst (λ (p : Printed). Answers p v at out₀ r out) (sym (lines-on k xs ys)) (record {
+      kept = c .kept;
+      after = c .after;
+      puts = put-then at m r (linesDo k xs .bytes) (linesDo (linesDo k xs .after) ys .bytes) out₀ out₁ out (a .puts) (c .puts);
+    })
+
+no-lines : (u : State) (at : ℕ) (out : List ℕ) → Kept u → Answers (linesDo (keptOf u) []) u at out at out
+unfolding linesDo
+no-lines u at out k = record { kept = k; after = refl; puts = put-none at out }
+
+-- ---- a part of the input
+
+-- no line feed came
+ended-one : (b : List ℕ) → ended (b ∷ []) ≡ []
+unfolding ended
+ended-one b = refl
+
+waiting-one : (b : List ℕ) → waiting (b ∷ []) ≡ b
+unfolding waiting
+waiting-one b = refl
+
+ended-two : (b : List ℕ) → ended (b ∷ [] ∷ []) ≡ b ∷ []
+unfolding ended
+ended-two b = refl
+
+waiting-two : (b : List ℕ) → waiting (b ∷ [] ∷ []) ≡ []
+unfolding waiting
+waiting-two b = refl
+
+module _ (u : State) (b taken : List ℕ) (at : ℕ) (out : List ℕ) (r : Program) (line′ : List ℕ) where
+  pub takes-rest : parts 10 (b ++ taken) ≡ (b ++ taken) ∷ [] → Kept u → r .at ≡ at → Holds line′ (r .length) (b ++ taken) → Takes u b taken at out r line′ u out
+  takes-rest e k a h =
+      let nothing : ended (parts 10 (b ++ taken)) ≡ [] = ap ended e ∙ ended-one (b ++ taken) in
+      let rest : waiting (parts 10 (b ++ taken)) ≡ b ++ taken = ap waiting e ∙ waiting-one (b ++ taken) in
+      record {
+        answers = subst (λ (ls : List (List ℕ)). Answers (linesDo (keptOf u) ls) u at out (r .at) out) (sym nothing)
+        (subst (λ (x : ℕ). Answers (linesDo (keptOf u) []) u at out x out) (sym a) (no-lines u at out k));
+        waits = subst (Holds line′ (r .length)) (sym rest) h;
+      }
+
+  -- a line ended, with nothing after it
+  pub takes-line : (v : State) (out′ : List ℕ) (x : List ℕ) → parts 10 (b ++ taken) ≡ x ∷ [] ∷ [] → Answers (lineDoes (keptOf u) x) v at out (r .at) out′
+      → r .length ≡ 0 → Takes u b taken at out r line′ v out′
+  takes-line v out′ x e a z =
+      let one : ended (parts 10 (b ++ taken)) ≡ x ∷ [] = ap ended e ∙ ended-two x in
+      let rest : waiting (parts 10 (b ++ taken)) ≡ [] = ap waiting e ∙ waiting-two x in
+      record {
+        answers = subst (λ (p : Printed). Answers p v at out (r .at) out′) (sym (ap (linesDo (keptOf u)) one ∙ lines-one (keptOf u) x)) a;
+        waits = subst (Holds line′ (r .length)) (sym rest) (subst (λ (n : ℕ). Holds line′ n []) (sym z) (holds-none line′));
+      }
+
+-- one part after another
+pub takes-on : (u v w : State) (b x y : List ℕ) (at : ℕ) (out₀ out₁ out : List ℕ) (p r : Program) (line₁ line : List ℕ) → Takes u b x at out₀ p line₁ v out₁
+    → Takes v (waiting (parts 10 (b ++ x))) y (p .at) out₁ r line w out → Takes u b (x ++ y) at out₀ r line w out
+takes-on u v w b x y at out₀ out₁ out p r line₁ line s t =
+    let bytes : b ++ (x ++ y) ≡ (b ++ x) ++ y = sym (append-assoc b x y) in
+    let lines : ended (parts 10 (b ++ (x ++ y))) ≡ ended (parts 10 (b ++ x)) ++ ended (parts 10 (waiting (parts 10 (b ++ x)) ++ y)) =
+    ap (λ (z : List ℕ). ended (parts 10 z)) bytes ∙ parts-ended 10 (b ++ x) y in
+    let rest : waiting (parts 10 (b ++ (x ++ y))) ≡ waiting (parts 10 (waiting (parts 10 (b ++ x)) ++ y)) =
+    ap (λ (z : List ℕ). waiting (parts 10 z)) bytes ∙ parts-waiting 10 (b ++ x) y in
+    record {
+      answers = subst (λ (ls : List (List ℕ)). Answers (linesDo (keptOf u) ls) w at out₀ (r .at) out) (sym lines)
+      (answers-on (keptOf u) (ended (parts 10 (b ++ x))) (ended (parts 10 (waiting (parts 10 (b ++ x)) ++ y))) v w at (p .at) (r .at) out₀ out₁ out (s .answers) (t .answers));
+      waits = subst (Holds line (r .length)) (sym rest) (t .waits);
+    }
+
+-- ---- stretches of a part
+
+pub between-none : (a : ℕ) (l : List ℕ) → between a a l ≡ []
+between-none a l = let z : a - a ≡ 0 = omega arith in ap (λ (n : ℕ). take n (drop a l)) z
+
+pub between-on : (a b c : ℕ) (l : List ℕ) → a ≤ b → b ≤ c → between a c l ≡ between a b l ++ between b c l
+between-on a b c l p q =
+    let n : c - a ≡ (b - a) + (c - b) = omega arith in
+    let m : a + (b - a) ≡ b = omega arith in
+    ap (λ (k : ℕ). take k (drop a l)) n ∙ take-add (b - a) (c - b) (drop a l)
+    ∙ ap (λ (x : List ℕ). between a b l ++ take (c - b) x) (drop-drop (b - a) a l ∙ ap (λ (k : ℕ). drop k l) m)
+
+-- up to a line feed, and with it
+pub between-feed : (from to : ℕ) (l : List ℕ) → from ≤ to → to < length l → getD l to 0 ≡ 10 → between from (to + 1) l ≡ between from to l ++ (10 ∷ [])
+between-feed from to l p q e =
+    let n : to + 1 - from ≡ suc (to - from) = omega arith in
+    let m : from + (to - from) ≡ to = omega arith in
+    ap (λ (k : ℕ). take k (drop from l)) n ∙ take-suc (drop from l) (to - from) 0 (omega (arith, length-drop from l))
+    ∙ ap (λ (x : ℕ). between from to l ++ (x ∷ [])) (getD-drop from l (to - from) 0 ∙ ap (λ (k : ℕ). getD l k 0) m ∙ e)
