@@ -33,7 +33,7 @@ KINDS = {
 OTHERS = {('c_calls', 'packet_window_version'): 'r ≡ version'}
 # new: crate, function, record, where it is defined
 NEW = [('window', 'new', 'NewBy', 'window', 'New'), ('c_calls', 'packet_window_new', 'CreatesBy', 'c_calls', 'Numbers')]
-TEXT = {'line_text': ['parse'], 'line_calls': ['call'], 'line_output': ['put_line', 'put_list', 'put_unknown']}
+TEXT = {'line_text': ['parse'], 'line_calls': ['call', 'live_pairs'], 'line_output': ['put_line', 'put_list', 'put_unknown']}
 # where the order of refusals is computed, at `order`
 EXAMPLES = 'crates/model/proofs/Examples.antt'
 # what the records say: each line stands in its file, word for word

@@ -1,2 +1,3 @@
--- Laws for the proofs of this crate.
+-- Laws for the proofs of this crate: the call of a letter (MakeLaws), the listing of live pairs (ListLaws).
 pub mod MakeLaws
+pub mod ListLaws

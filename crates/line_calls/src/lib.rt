@@ -1,4 +1,6 @@
-// The call that a line makes, by its letter and fields.
+// The call that a line makes, by its letter and fields; list.rt has l.
+pub mod list;
+
 use call_point::exchange::exchange;
 use call_point::insert::insert;
 use call_point::remove::remove;

@@ -13,13 +13,7 @@ use Rattle.model.specs.Contract.{State}
 use Rattle.line_text.specs.Lines.{Line, lineOf, parts, ended, waiting}
 use Rattle.line_output.specs.Output.{lineBytes, listBytes, unknownBytes}
 use Rattle.line_calls.specs.Calls.{Command, create, listing, make, nothing, commandOf}
-use Rattle.model.specs.Table.{Pair}
-unfoldable pub sequencesOf : List Pair → List ℕ
-sequencesOf [] = []
-sequencesOf (p ∷ ps) = p .sequence ∷ sequencesOf ps
-unfoldable pub valuesOf : List Pair → List ℕ
-valuesOf [] = []
-valuesOf (p ∷ ps) = p .value ∷ valuesOf ps
+use Rattle.line_calls.specs.List.{sequencesOf, valuesOf}
 
 -- ---- what is kept between lines
 
