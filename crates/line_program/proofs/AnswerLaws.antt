@@ -21,10 +21,10 @@ use Rattle.window.specs.Refusals.{limits, longEnough, LongEnough, refusalNumber
 use Rattle.window.specs.New as new
 use Rattle.window.specs.New.{newOf, shortMemory}
 use Rattle.window.proofs.MemoryLaws.{capacity-least, capacity-pages}
-use Rattle.window.proofs.RefusalLaws.{within-limits, is-long-enough}
+use Rattle.window.proofs.RefusalLaws.{within-limits, is-long-enough, fits-is}
 use Rattle.model.specs.Calls.{Call, Answer, done, refused}
 use Rattle.model.specs.Roles.{roleOf}
-use Rattle.model.specs.Window.{Window, sizeOf}
+use Rattle.model.specs.Window.{Window, livePairs}
 use Rattle.model.specs.Steps.{Effect, windowStep}
 use Rattle.model.specs.Contract.{State, windowOf, lengthsFit, Meets}
 use Rattle.model.specs.Sound.{Sound}
@@ -33,10 +33,11 @@ use Rattle.model.proofs.NewLaws.{began-accepted}
 use Rattle.page_base.proofs.DecodeLaws.{header-at}
 use Rattle.call_base.specs.Answers.{answerOf, stateOf, leftOf}
 use Rattle.line_text.specs.PrintContracts.{Puts}
-use Rattle.line_output.specs.Output.{lineBytes, unknownBytes}
-use Rattle.line_output.specs.Contracts.{roomFor, PutsIf}
+use Rattle.line_output.specs.Output.{lineBytes, listBytes, unknownBytes}
+use Rattle.line_output.specs.Contracts.{roomFor, pairsRoom, PutsIf}
 use Rattle.line_calls.specs.Calls.{seenBy, taken, Makes}
-use Rattle.line_program.specs.Program.{keptOf, windowIn, withNew, Printed, printed, unknownLine, newOr, newLine, callLine, onWindow}
+use Rattle.line_calls.specs.List.{sequencesOf, valuesOf, Lists}
+use Rattle.line_program.specs.Program.{keptOf, windowIn, withNew, Printed, printed, unknownLine, newOr, newLine, callLine, listLine, onWindow}
 use Rattle.line_program.specs.Contracts.{Kept, Answers}
 use Rattle.line_program.proofs.KeptLaws.{window-in, does, call-kept, call-after, new-after, began-kept}
 
@@ -105,6 +106,11 @@ module _ (at : ℕ) (out : List ℕ) (o : length out ≡ 262144) (few : at ≤ 6
   unfolding roomFor
   room-line list count e l = rw (le-leb count 4096 (omega arith), le-leb count list (omega arith), le-leb (at + (128 + 21 * count)) (length out) (omega arith)) refl
 
+  room-pairs : (ss vs count : ℕ) → ss ≡ 4096 → vs ≡ 4096 → count ≤ 4096 → pairsRoom (length out) at ss vs count ≡ true
+  unfolding roomFor
+  room-pairs ss vs count e f l =
+      rw (le-leb count 4096 (omega arith), le-leb count ss (omega arith), le-leb (at + (128 + 42 * count)) (length out) (omega arith), le-leb count vs (omega arith)) refl
+
   -- ---- no call
   pub unknown-answers : (u : State) (r : ℕ) (out′ : List ℕ) → Kept u → PutsIf (leb (at + 2) (length out)) at unknownBytes out r out′
       → Answers (unknownLine (keptOf u)) u at out r out′
@@ -146,9 +152,30 @@ module _ (at : ℕ) (out : List ℕ) (o : length out ≡ 262144) (few : at ≤ 6
           puts = subst (λ (j : ℕ). Puts at (lineBytes 110 (refused j) (u .header) []) out r out′) (f .0) puts;
         })
 
+  -- ---- l
+  pub list-answers : (u : State) (ss vs ss′ vs′ : List ℕ) (n r : ℕ) (out′ : List ℕ) → Kept u → 0 < u .header .«window_size» → length (u .memory .sequences) ≡ 4096
+      → length ss ≡ 4096 → length vs ≡ 4096 → Lists u ss vs n ss′ vs′
+      → PutsIf (pairsRoom (length out) at (length ss′) (length vs′) n) at (listBytes (u .header) (take n ss′) (take n vs′)) out r out′
+      → Answers (listLine (keptOf u)) u at out r out′
+  unfolding listLine
+  list-answers u ss vs ss′ vs′ n r out′ k has lent e f t p =
+      let fits = fits-is (u .header) _ _ _ _ (k .fit has) in
+      let l = t .sound (k .fit has) (k .sound has) (omega (arith, fits .long .sequences-long)) (omega (arith, fits .long .sequences-long)) in
+      let pairs : livePairs (windowOf u) ≡ livePairs (windowIn (keptOf u)) = ap livePairs (sym (window-in u)) in
+      let first : take n ss′ ≡ sequencesOf (livePairs (windowIn (keptOf u))) = l .sequences ∙ ap sequencesOf pairs in
+      let second : take n vs′ ≡ valuesOf (livePairs (windowIn (keptOf u))) = l .values ∙ ap valuesOf pairs in
+      let bytes : listBytes (u .header) (take n ss′) (take n vs′) ≡ listBytes (u .header) (sequencesOf (livePairs (windowIn (keptOf u)))) (valuesOf (livePairs (windowIn (keptOf u)))) =
+      λ i. listBytes (u .header) (first i) (second i) in
+      record {
+        kept = k;
+        after = refl;
+        puts = subst (λ (x : List ℕ). Puts at x out r out′) bytes
+        (p .puts (room-pairs (length ss′) (length vs′) n (t .sequences-long ∙ e) (t .values-long ∙ f) (omega (arith, t .sequences-fit))));
+      }
+
   -- ---- a call
   module _ (c : Call) (letter : ℕ) (u : State) (l : List ℕ) (s : Step) (m : Memory) (l′ : List ℕ) (t : Makes c u l s m l′)
-      (k : Kept u) (some : 0 < u .header .«window_size») (r : ℕ) (out′ : List ℕ) (before : length l ≡ 384) (after : length l′ ≡ 384) where
+      (k : Kept u) (has : 0 < u .header .«window_size») (r : ℕ) (out′ : List ℕ) (before : length l ≡ 384) (after : length l′ ≡ 384) where
     abbrev left : Effect
     left = windowStep (windowOf u) c
 
@@ -167,7 +194,7 @@ module _ (at : ℕ) (out : List ℕ) (o : length out ≡ 262144) (few : at ≤ 6
     unfolding callLine
     call-answers p =
         let v = leftOf s m (seenBy c l′) in
-        let d = does c u (seenBy c l) v (t .meets) (k .fit some) (k .sound some) in
+        let d = does c u (seenBy c l) v (t .meets) (k .fit has) (k .sound has) in
         let answer : answerOf (s .answer .answer) ≡ made .answer = d .answer ∙ ap (λ (e : Effect). e .answer) same in
         let header : s .window ≡ made .after .header =
         sym (header-at (s .window) m) ∙ ap (λ (w : Window). w .header) (d .window) ∙ ap (λ (e : Effect). e .after .header) same in
@@ -175,8 +202,8 @@ module _ (at : ℕ) (out : List ℕ) (o : length out ≡ 262144) (few : at ≤ 6
         taken-first (roleOf c .listed) (s .answer .count) l′ (left .returned) (d .returned) (d .count) ∙ ap (λ (e : Effect). e .returned) same in
         let bytes : lineBytes letter (answerOf (s .answer .answer)) (s .window) (take (s .answer .count) l′)
         ≡ lineBytes letter (made .answer) (made .after .header) (made .returned) = λ i. lineBytes letter (answer i) (header i) (returned i) in
-        rw (lt-ltb 0 (u .header .«window_size») some) (record {
-          kept = call-kept c u (seenBy c l) v (t .meets) (k .fit some) (k .sound some);
-          after = call-after c u (seenBy c l) v (t .meets) (k .fit some) (k .sound some);
+        rw (lt-ltb 0 (u .header .«window_size») has) (record {
+          kept = call-kept c u (seenBy c l) v (t .meets) (k .fit has) (k .sound has);
+          after = call-after c u (seenBy c l) v (t .meets) (k .fit has) (k .sound has);
           puts = subst (λ (x : List ℕ). Puts at x out r out′) bytes (p .puts (room-line (length l′) (s .answer .count) after few-returned));
         })

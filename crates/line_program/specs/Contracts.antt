@@ -15,7 +15,7 @@ use Rattle.model.specs.Window.{Window}
 use Rattle.model.specs.Sound.{Sound}
 use Rattle.model.specs.Contract.{State, windowOf, lengthsFit}
 use Rattle.call_base.specs.Answers.{stateOf}
-use Rattle.line_program.specs.Program.{keptOf, Printed, linesDo}
+use Rattle.line_program.specs.Program.{keptOf, Printed, linesDo, unlessEmpty}
 use Rattle.line_program.specs.declared.answer.Answered.{Answered}
 use Rattle.line_program.specs.declared.Program.{Program}
 
@@ -64,3 +64,19 @@ TakesBy p part line ss vs pages blocks out r =
     (b : List ℕ) → Holds (now (line .entry)) (p .length) b
     → Takes (stateOf (p .window) (foundIn ss vs pages blocks)) b (between (p .from) (r .from) part) (p .at) (now (out .entry)) r
     (now (line .exit)) (stateOf (r .window) (leftIn ss vs pages blocks)) (now (out .exit))
+
+-- where it stopped: at the end of the part, or with more than 65536 bytes put, and never before a line was taken
+pub record Stops (p : Program) (end : ℕ) (r : Program) : Type 0 where
+  pub from-le : p .from ≤ r .from
+  pub le-end : r .from ≤ end
+  pub full : r .from < end → 65536 < r .at
+  pub goes-on : p .from < end → p .at ≤ 65536 → p .from < r .from
+
+-- ---- the end of the input
+
+-- a last line b without a line feed was answered, if there was one
+abbrev pub EndsBy : Program → (line sequences values pages blocks out : Lent) → Program → Type 0
+EndsBy p line ss vs pages blocks out r =
+    (b : List ℕ) → Holds (now (line .entry)) (p .length) b
+    → Answers (linesDo (keptOf (stateOf (p .window) (foundIn ss vs pages blocks))) (unlessEmpty b)) (stateOf (r .window) (leftIn ss vs pages blocks))
+    (p .at) (now (out .entry)) (r .at) (now (out .exit))
