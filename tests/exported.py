@@ -2,7 +2,7 @@
 """Every exported function has the contract of its own call, and the axioms are those that README names.
 
 Exported are the calls of document 01 by value, their host forms, the functions in C's calling convention, and the line parser, what
-makes a line's call, and the printer. Of each this is asked: no `requires`, and as `ensures` nothing but the contract record of its kind, at the call of its own name
+makes a line's call, what tells a line's fault, and the printer. Of each this is asked: no `requires`, and as `ensures` nothing but the contract record of its kind, at the call of its own name
 with its own parameters in their order (`new`, which is no call, has a record of its own, and the version a number). The records themselves are asked to be
 the contract of every call at the whole step and the whole soundness. Every call of `Call` and `Query` is exported, and every
 exported function is of a call there, so that demand 3 speaks of it. The order of refusals is computed for every call.
@@ -33,7 +33,7 @@ KINDS = {
 OTHERS = {('c_calls', 'packet_window_version'): 'r ≡ version'}
 # new: crate, function, record, where it is defined
 NEW = [('window', 'new', 'NewBy', 'window', 'New'), ('c_calls', 'packet_window_new', 'CreatesBy', 'c_calls', 'Numbers')]
-TEXT = {'line_text': ['parse'], 'line_calls': ['call', 'live_pairs'], 'line_output': ['put_line', 'put_list', 'put_unknown']}
+TEXT = {'line_text': ['parse'], 'line_calls': ['call', 'live_pairs'], 'line_faults': ['fault_of'], 'line_output': ['put_line', 'put_list', 'put_unknown']}
 # where the order of refusals is computed, at `order`
 EXAMPLES = 'crates/model/proofs/Examples.antt'
 # what the records say: each line stands in its file, word for word
