@@ -1,6 +1,7 @@
 // The line program: one call a line from standard input, one line to standard output for each. window_size is at most 4096.
 mod answer;
 mod input;
+mod messages;
 mod output;
 mod run;
 
