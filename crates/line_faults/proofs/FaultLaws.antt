@@ -19,11 +19,11 @@ use Rattle.line_faults.specs.declared.Fault.the-variants.{CarriageReturn
 use Rattle.line_faults.specs.Faults.{occurrences, letterCount, faultOfCall, faultOfFields, faultOfBytes}
 
 -- with one byte before the others
-hit : (b c : ℕ) (cs : List ℕ) → c ≡ b → occurrences b (c ∷ cs) ≡ suc (occurrences b cs)
+pub hit : (b c : ℕ) (cs : List ℕ) → c ≡ b → occurrences b (c ∷ cs) ≡ suc (occurrences b cs)
 unfolding occurrences
 hit b c cs e = rw (eq-eqb c b e) refl
 
-miss : (b c : ℕ) (cs : List ℕ) → (c ≡ b → ⊥) → occurrences b (c ∷ cs) ≡ occurrences b cs
+pub miss : (b c : ℕ) (cs : List ℕ) → (c ≡ b → ⊥) → occurrences b (c ∷ cs) ≡ occurrences b cs
 unfolding occurrences
 miss b c cs e = rw (ne-eqb c b e) refl
 
@@ -98,7 +98,7 @@ pub space : (bs : List ℕ) → occurrences 13 bs ≤ 0 → 0 < occurrences 32 b
 unfolding faultOfBytes
 space bs r s = rw (le-ltb 0 (occurrences 13 bs) r, lt-ltb 0 (occurrences 32 bs) s) refl
 
-neither : (bs : List ℕ) → occurrences 13 bs ≤ 0 → occurrences 32 bs ≤ 0 → faultOfFields (letterCount bs) bs ≡ faultOfBytes bs
+pub neither : (bs : List ℕ) → occurrences 13 bs ≤ 0 → occurrences 32 bs ≤ 0 → faultOfFields (letterCount bs) bs ≡ faultOfBytes bs
 unfolding faultOfBytes
 neither bs r s = rw (le-ltb 0 (occurrences 13 bs) r, le-ltb 0 (occurrences 32 bs) s) refl
 

@@ -22,11 +22,11 @@ unfoldable pub fieldsAfter : List ℕ → Option (List ℕ)
 fieldsAfter [] = some []
 fieldsAfter (b ∷ bs) = elim (eqb b 9) [ true ↦ numbers (parts 9 bs) | false ↦ none ]
 
-at-tab : (b : ℕ) (bs : List ℕ) → b ≡ 9 → fieldsAfter (b ∷ bs) ≡ numbers (parts 9 bs)
+pub at-tab : (b : ℕ) (bs : List ℕ) → b ≡ 9 → fieldsAfter (b ∷ bs) ≡ numbers (parts 9 bs)
 unfolding fieldsAfter
 at-tab b bs e = rw (fieldsAfter, eq-eqb b 9 e) refl
 
-at-other : (b : ℕ) (bs : List ℕ) → (b ≡ 9 → ⊥) → fieldsAfter (b ∷ bs) ≡ none
+pub at-other : (b : ℕ) (bs : List ℕ) → (b ≡ 9 → ⊥) → fieldsAfter (b ∷ bs) ≡ none
 unfolding fieldsAfter
 at-other b bs e = rw (fieldsAfter, ne-eqb b 9 e) refl
 
@@ -46,7 +46,7 @@ abbrev pub prefixed : List ℕ → Option (List ℕ) → Option (List ℕ)
 prefixed ns none = none
 prefixed ns (some ms) = some (ns ++ ms)
 
-prefixed-none : (x : Option (List ℕ)) → prefixed [] x ≡ x
+pub prefixed-none : (x : Option (List ℕ)) → prefixed [] x ≡ x
 prefixed-none none = refl
 prefixed-none (some ms) = refl
 
