@@ -35,9 +35,10 @@ use Rattle.call_base.specs.Answers.{answerOf, stateOf, leftOf}
 use Rattle.line_text.specs.PrintContracts.{Puts}
 use Rattle.line_output.specs.Output.{lineBytes, listBytes, unknownBytes}
 use Rattle.line_output.specs.Contracts.{roomFor, pairsRoom, PutsIf}
-use Rattle.line_calls.specs.Calls.{seenBy, taken, Makes}
+use Rattle.line_calls.specs.declared.Called.the-variants.{Stepped, Unknown}
+use Rattle.line_calls.specs.Calls.{called, seenBy, taken, Makes, Made}
 use Rattle.line_calls.specs.List.{sequencesOf, valuesOf, Lists}
-use Rattle.line_program.specs.Program.{keptOf, windowIn, withNew, Printed, printed, unknownLine, newOr, newLine, callLine, listLine, onWindow}
+use Rattle.line_program.specs.Program.{keptOf, windowIn, withNew, Printed, printed, unknownLine, newOr, newLine, callLine, listLine, onWindow, commandLine}
 use Rattle.line_program.specs.Contracts.{Kept, Answers}
 use Rattle.line_program.proofs.KeptLaws.{window-in, does, call-kept, call-after, new-after, began-kept}
 
@@ -100,6 +101,38 @@ taken-first none n l e t h =
     ap (λ (j : ℕ). take j l) k ∙ sym z
 taken-first (some b) n l e t h = t
 
+-- an n with a larger window_size is no call
+pub new-larger : (size n d : ℕ) (u v : State) (at : ℕ) (out : List ℕ) (r : ℕ) (out′ : List ℕ) → 4096 < size → Answers (unknownLine (keptOf u)) v at out r out′
+    → Answers (newLine (keptOf u) size n d) v at out r out′
+unfolding newLine
+new-larger size n d u v at out r out′ l a = rw (lt-ltb 4096 size l) a
+
+-- a letter that makes no call, of which it is told whether the return list has 384 places
+listed : (g : Bool → Option Call) (l : List ℕ) → length l ≡ 384 → g (leb 384 (length l)) ≡ g true
+listed g l e = ap g (le-leb 384 (length l) (omega arith))
+
+module _ (g : Bool → Option Call) (u : State) (l : List ℕ) (m : Memory) (l′ : List ℕ) (t : Made (g (leb 384 (length l))) u l Unknown m l′) where
+  same-memory : (o : Option Call) → Made o u l Unknown m l′ → m ≡ u .memory
+  same-memory none s = s .0
+  same-memory (some c) s = absurd s
+
+  pub unmade-kept : Kept u → Kept (stateOf (u .header) m)
+  unmade-kept k = subst (λ (x : Memory). Kept (stateOf (u .header) x)) (sym (same-memory (g (leb 384 (length l))) t)) k
+
+  module _ (letter : ℕ) (v : State) (at : ℕ) (out : List ℕ) (r : ℕ) (out′ : List ℕ) where
+    no-line : (o : Option Call) → Made o u l Unknown m l′ → Answers (unknownLine (keptOf (stateOf (u .header) m))) v at out r out′
+        → Answers (commandLine (keptOf u) letter (called o)) v at out r out′
+    no-line none s a = subst (λ (x : Memory). Answers (unknownLine (keptOf (stateOf (u .header) x))) v at out r out′) (s .0) a
+    no-line (some c) s a = absurd s
+
+    pub unmade-answers : length l ≡ 384 → Answers (unknownLine (keptOf (stateOf (u .header) m))) v at out r out′
+        → Answers (commandLine (keptOf u) letter (called (g true))) v at out r out′
+    unmade-answers e a = no-line (g true) (subst (λ (o : Option Call). Made o u l Unknown m l′) (listed g l e) t) a
+
+-- the same answer by another name
+pub answers-as : (p q : Printed) (v : State) (at : ℕ) (out : List ℕ) (r : ℕ) (out′ : List ℕ) → q ≡ p → Answers p v at out r out′ → Answers q v at out r out′
+answers-as p q v at out r out′ e a = subst (λ (x : Printed). Answers x v at out r out′) (sym e) a
+
 -- a buffer with 262144 places, of which at most 65536 are filled, has a place for any line
 module _ (at : ℕ) (out : List ℕ) (o : length out ≡ 262144) (few : at ≤ 65536) where
   pub room-line : (list count : ℕ) → list ≡ 384 → count ≤ 384 → roomFor (length out) at list count 21 ≡ true
@@ -118,10 +151,6 @@ module _ (at : ℕ) (out : List ℕ) (o : length out ≡ 262144) (few : at ≤ 6
 
   -- ---- n
   module _ (size n d : ℕ) (u : State) (r : ℕ) (out′ : List ℕ) (returned : List ℕ) (list : length returned ≡ 384) where
-    pub new-larger : 4096 < size → Answers (unknownLine (keptOf u)) u at out r out′ → Answers (newLine (keptOf u) size n d) u at out r out′
-    unfolding newLine
-    new-larger l a = rw (lt-ltb 4096 size l) a
-
     pub new-made : size ≤ 4096 → (w : AdaptiveReceiverPacketWindow) (m : Memory) → new.newResult (new.made w) m ≡ newOf (u .memory) size n d
         → PutsIf (roomFor (length out) at (length returned) 0 21) at (lineBytes 110 done w []) out r out′
         → Answers (newLine (keptOf u) size n d) (stateOf w m) at out r out′
@@ -207,3 +236,18 @@ module _ (at : ℕ) (out : List ℕ) (o : length out ≡ 262144) (few : at ≤ 6
           after = call-after c u (seenBy c l) v (t .meets) (k .fit has) (k .sound has);
           puts = subst (λ (x : List ℕ). Puts at x out r out′) bytes (p .puts (room-line (length l′) (s .answer .count) after few-returned));
         })
+
+  -- what a letter other than n and l did, of which the call is told whether the return list has 384 places
+  module _ (g : Bool → Option Call) (letter : ℕ) (u : State) (l : List ℕ) (m : Memory) (l′ : List ℕ) (before : length l ≡ 384) (r : ℕ) (out′ : List ℕ) where
+    one-line : (o : Option Call) (s : Step) → Made o u l (Stepped s) m l′ → Kept u → 0 < u .header .«window_size» → length l′ ≡ 384
+        → PutsIf (roomFor (length out) at (length l′) (s .answer .count) 21) at
+        (lineBytes letter (answerOf (s .answer .answer)) (s .window) (take (s .answer .count) l′)) out r out′
+        → Answers (commandLine (keptOf u) letter (called o)) (stateOf (s .window) m) at out r out′
+    one-line none s t k has after p = absurd t
+    one-line (some c) s t k has after p = call-answers c letter u l s m l′ t k has r out′ before after p
+
+    pub made-answers : (s : Step) → Made (g (leb 384 (length l))) u l (Stepped s) m l′ → Kept u → 0 < u .header .«window_size» → length l′ ≡ 384
+        → PutsIf (roomFor (length out) at (length l′) (s .answer .count) 21) at
+        (lineBytes letter (answerOf (s .answer .answer)) (s .window) (take (s .answer .count) l′)) out r out′
+        → Answers (commandLine (keptOf u) letter (called (g true))) (stateOf (s .window) m) at out r out′
+    made-answers s t = one-line (g true) s (subst (λ (o : Option Call). Made o u l (Stepped s) m l′) (listed g l before) t)
