@@ -20,7 +20,7 @@ use Rattle.model.specs.Window.{Window}
 use Rattle.model.specs.Contract.{State}
 use Rattle.line_program.specs.declared.Program.{Program}
 use Rattle.line_program.specs.Program.{keptOf, Printed, printed, lineDoes, linesDo, unlessEmpty, linesOf, saidLine}
-use Rattle.line_program.specs.Contracts.{Kept, Answers, gathered, Holds, Takes, between}
+use Rattle.line_program.specs.Contracts.{Kept, Answers, gathered, Holds, Takes, between, Stops}
 
 -- ---- the bytes of a line that have come
 
@@ -166,3 +166,106 @@ between-feed from to l p q e =
     let m : from + (to - from) ≡ to = omega arith in
     ap (λ (k : ℕ). take k (drop from l)) n ∙ take-suc (drop from l) (to - from) 0 (omega (arith, length-drop from l))
     ∙ ap (λ (x : ℕ). between from to l ++ (x ∷ [])) (getD-drop from l (to - from) 0 ∙ ap (λ (k : ℕ). getD l k 0) m ∙ e)
+
+-- ---- the bytes of a part up to its next line feed, or to its end
+
+module _ (u : State) (part : List ℕ) (from to : ℕ) (next : NextByte part from 10 to) (line : List ℕ) (n : ℕ) (line′ : List ℕ) (n′ : ℕ)
+    (a : Appends line n (between from to part) n′ line′) (same : length line′ ≡ length line) (b : List ℕ) (h : Holds line n b) where
+  came : Holds line′ n′ (b ++ between from to part)
+  came = holds-more line n b (between from to part) n′ line′ h a (sliced part from 10 to next) same
+
+  pub part-ended : Kept u → (out : List ℕ) (r : Program) → r .from ≡ to → r .length ≡ n′ → Takes u b (between from (r .from) part) (r .at) out r line′ u out
+  part-ended k out r e f =
+      let taken : between from (r .from) part ≡ between from to part = ap (λ (x : ℕ). between from x part) e in
+      subst (λ (x : List ℕ). Takes u b x (r .at) out r line′ u out) (sym taken)
+      (takes-rest u b (between from to part) (r .at) out r line′ (came .whole) k refl (subst (λ (x : ℕ). Holds line′ x (b ++ between from to part)) (sym f) came))
+
+  pub line-ended : to < length part → length line ≡ 64 → (v : State) (at : ℕ) (out : List ℕ) (r : Program) (out′ : List ℕ)
+      → Answers (saidLine (keptOf u) (gathered line′ n′)) v at out (r .at) out′ → r .from ≡ to + 1 → r .length ≡ 0
+      → Takes u b (between from (r .from) part) at out r line′ v out′
+  line-ended l full v at out r out′ t e f =
+      let seg = between from to part in
+      let taken : between from (r .from) part ≡ seg ++ (10 ∷ []) = ap (λ (x : ℕ). between from x part) e ∙ between-feed from to part (next .from-le) l (next .found l) in
+      let whole : parts 10 (b ++ (seg ++ (10 ∷ []))) ≡ (b ++ seg) ∷ [] ∷ [] =
+      ap (parts 10) (sym (append-assoc b seg (10 ∷ []))) ∙ ends-part 10 10 (b ++ seg) (came .whole) refl in
+      let said = subst (λ (p : Printed). Answers p v at out (r .at) out′) (line-said (keptOf u) line′ n′ (b ++ seg) (same ∙ full) came) t in
+      subst (λ (x : List ℕ). Takes u b x at out r line′ v out′) (sym taken) (takes-line u b (seg ++ (10 ∷ [])) at out r line′ v out′ (b ++ seg) whole said f)
+
+-- ---- the end of the input
+
+pub none-left : (u : State) (line : List ℕ) (b : List ℕ) (at : ℕ) (out : List ℕ) → Kept u → Holds line 0 b → Answers (linesDo (keptOf u) (unlessEmpty b)) u at out at out
+none-left u line [] at out k h = no-lines u at out k
+none-left u line (x ∷ b) at out k h =
+    bool (ltb (length line) (length (x ∷ b)))
+    (λ t. absurd (omega (arith, h .long (ltb-true (length line) (length (x ∷ b)) t))))
+    (λ t. absurd (omega (arith, h .short (ltb-false (length line) (length (x ∷ b)) t) .0)))
+
+some-left : (n : ℕ) (line b : List ℕ) → (n ≡ 0 → ⊥) → Holds line n b → unlessEmpty b ≡ b ∷ []
+some-left n line [] z h = absurd (z (h .short (omega arith) .0))
+some-left n line (x ∷ b) z h = refl
+
+pub last-answered : (u v : State) (line : List ℕ) (n : ℕ) (b : List ℕ) (at : ℕ) (out : List ℕ) (r : ℕ) (out′ : List ℕ) → length line ≡ 64 → (n ≡ 0 → ⊥) → Holds line n b
+    → Answers (saidLine (keptOf u) (gathered line n)) v at out r out′ → Answers (linesDo (keptOf u) (unlessEmpty b)) v at out r out′
+last-answered u v line n b at out r out′ full z h t =
+    subst (λ (p : Printed). Answers p v at out r out′)
+    (line-said (keptOf u) line n b full h ∙ sym (lines-one (keptOf u) b) ∙ ap (linesDo (keptOf u)) (sym (some-left n line b z h))) t
+
+-- what the lines that ended print and then the last, is what the input prints
+pub whole-input : (k : Window) (input : List ℕ)
+    → let p = linesDo k (ended (parts 10 input)) in let q = linesDo (p .after) (unlessEmpty (waiting (parts 10 input))) in
+    linesDo k (linesOf input) ≡ printed (q .after) (p .bytes ++ q .bytes)
+unfolding linesOf
+whole-input k input = lines-on k (ended (parts 10 input)) (unlessEmpty (waiting (parts 10 input)))
+
+-- ---- line after line of a part
+
+-- from program p in state u, with this line's places and this output, to r
+pub record TakenSoFar (part line : List ℕ) (u : State) (out : List ℕ) (p : Program) (line′ : List ℕ) (u′ : State) (out′ : List ℕ) (r : Program) : Type 0 where
+  pub kept : Kept u′
+  pub from-le : p .from ≤ r .from
+  pub le-end : r .from ≤ length part
+  pub same : r .from ≤ p .from → r .at ≡ p .at
+  pub takes : (b : List ℕ) → Holds line (p .length) b → Takes u b (between (p .from) (r .from) part) (p .at) out r line′ u′ out′
+
+pub taken-none : (part line : List ℕ) (u : State) (out : List ℕ) (p : Program) → Kept u → p .from ≤ length part → TakenSoFar part line u out p line u out p
+taken-none part line u out p k l = record {
+  kept = k;
+  from-le = omega arith;
+  le-end = l;
+  same = λ e. refl;
+  takes = λ b h.
+      let nothing : b ++ between (p .from) (p .from) part ≡ b = ap (λ (x : List ℕ). b ++ x) (between-none (p .from) part) ∙ append-nil b in
+      takes-rest u b (between (p .from) (p .from) part) (p .at) out p line (subst (λ (x : List ℕ). parts 10 x ≡ x ∷ []) (sym nothing) (h .whole)) k refl
+      (subst (Holds line (p .length)) (sym nothing) h);
+}
+
+module _ (part line : List ℕ) (u : State) (out : List ℕ) (p : Program) (line₁ : List ℕ) (v : State) (out₁ : List ℕ) (q : Program)
+    (s : TakenSoFar part line u out p line₁ v out₁ q) where
+  pub taken-more : (line₂ : List ℕ) (w : State) (out₂ : List ℕ) (r : Program) → (q .from < r .from) × (r .from ≤ length part)
+      → ((b : List ℕ) → Holds line₁ (q .length) b → Takes v b (between (q .from) (r .from) part) (q .at) out₁ r line₂ w out₂) → Kept w
+      → TakenSoFar part line u out p line₂ w out₂ r
+  taken-more line₂ w out₂ r l t k = record {
+    kept = k;
+    from-le = omega (arith, s .from-le, l .0);
+    le-end = l .1;
+    same = λ e. absurd (omega (arith, s .from-le, l .0));
+    takes = λ b h.
+        let x = s .takes b h in
+        subst (λ (y : List ℕ). Takes u b y (p .at) out r line₂ w out₂) (sym (between-on (p .from) (q .from) (r .from) part (s .from-le) (omega (arith, l .0))))
+        (takes-on u v w b (between (p .from) (q .from) part) (between (q .from) (r .from) part) (p .at) out out₁ out₂ q r line₁ line₂ x
+        (t (waiting (parts 10 (b ++ between (p .from) (q .from) part))) (x .waits)));
+  }
+
+  -- it stops at the end of the part, or where much was put
+  pub stops-end : length part ≤ q .from → Stops p (length part) q
+  stops-end l = record { from-le = s .from-le; le-end = s .le-end; full = λ h. absurd (omega arith); goes-on = λ h a. omega arith }
+
+  pub stops-full : 65536 < q .at → Stops p (length part) q
+  stops-full l = record {
+    from-le = s .from-le;
+    le-end = s .le-end;
+    full = λ h. l;
+    goes-on = λ h a.
+        bool (ltb (p .from) (q .from)) (λ t. ltb-true (p .from) (q .from) t)
+        (λ t. absurd (omega (arith, s .same (ltb-false (p .from) (q .from) t))));
+  }

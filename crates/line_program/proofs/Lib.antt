@@ -3,3 +3,4 @@ pub mod KeptLaws
 pub mod AnswerLaws
 pub mod CommandLaws
 pub mod InputLaws
+pub mod NoteLaws
