@@ -34,6 +34,13 @@ pub window-in : (u : State) → windowIn (keptOf u) ≡ windowOf u
 unfolding windowIn decode
 window-in u = refl
 
+-- before an accepted n
+pub start-kept : (h : AdaptiveReceiverPacketWindow) (m : Memory) → h ≡ fresh 0 0 0 → Kept (stateOf h m)
+unfolding fresh
+start-kept h m e =
+    let z : h .«window_size» ≡ 0 = ap (λ (x : AdaptiveReceiverPacketWindow). x .«window_size») e in
+    record { fit = λ l. absurd (omega (arith, z)); sound = λ l. absurd (omega (arith, z)) }
+
 -- ---- what lies past the named lengths
 
 past : (n : ℕ) (xs ys : List ℕ) → drop n ys ≡ drop n xs → (i : ℕ) → n ≤ i → getD ys i 0 ≡ getD xs i 0

@@ -1,2 +1,2 @@
--- The line program: what a gathered line says, and what is kept between lines.
-pub mod Program
+-- The line program: what a run keeps between its turns.
+pub mod Run

@@ -1,5 +1,6 @@
 // What standard error is told, a line for each message. A message that cannot be written is lost.
 use line_faults::Fault;
+use line_program::notes::Notes;
 
 // Bytes to standard error.
 fn tell(text: &[u8]) {
@@ -25,11 +26,24 @@ fn tell_what(fault: Fault) {
 }
 
 // A line that printed `?`; the first line of the input has number 1.
-pub fn tell_fault(number: u64, fault: Fault) {
+fn tell_fault(number: u64, fault: Fault) {
     tell(b"windowlines: line ");
     io::print_decimal(2, number);
     tell(b" is no call");
     tell_what(fault);
+}
+
+// The first line of a run that printed `?`, unless it was told before: whether it is told now.
+pub fn tell_first(told: bool, notes: Notes) -> bool {
+    if told {
+        return true;
+    }
+    if !notes.unknown {
+        return false;
+    }
+    let fault = notes.fault;
+    tell_fault(notes.number, fault);
+    true
 }
 
 // A write to standard output failed, and the program ends.

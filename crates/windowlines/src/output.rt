@@ -1,15 +1,13 @@
 // Standard output.
-ghost use mathlib.Core.Path.{_≡_};
-ghost use mathlib.Core.Bool.{true};
-ghost use Prim.Native.Nat.{_≤_};
-ghost use lib.ListN.{length};
+use crate::messages::tell_write_failed;
 
-// Writes the first `n` bytes; whether all were written.
-pub fn write_part(out: &[u8], n: usize) -> bool
-    ensures { λ r. ⌜ (r ≡ true → n ≤ length (now (out .entry))) ⌝ }
-{
-    if out.len() < n {
-        return false;
+// Writes the first `n` bytes; whether all were written, and if not, it is told.
+pub fn write_part(out: &[u8], n: usize) -> bool {
+    if n <= out.len() {
+        if io::write_all(1, &out[0..n]) {
+            return true;
+        }
     }
-    io::write_all(1, &out[0..n])
+    tell_write_failed();
+    false
 }

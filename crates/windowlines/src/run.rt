@@ -1,176 +1,89 @@
-// The lines of a part of the input, each answered as it ends.
-use crate::answer::Answered;
-use crate::answer::BLOCK_LIST;
-use crate::answer::PAGE_LIST;
-use crate::answer::answer;
-use crate::input::parse_line;
+// Bytes moved: from standard input to the line program, and its output to standard output.
 use crate::input::read_some;
+use crate::messages::tell_first;
 use crate::output::write_part;
-use line_output::put_unknown;
-use line_text::Parsed;
-use line_text::append;
-use line_text::next_byte;
-use window::AdaptiveReceiverPacketWindow;
-ghost use Prim.Native.Nat.{_≤_};
-ghost use Rattle.windowlines.specs.Program.{Flushed, Finished};
+use line_program::Program;
+use line_program::answer::BLOCK_LIST;
+use line_program::answer::PAGE_LIST;
+use line_program::take_last;
+use line_program::take_lines;
+ghost use Prim.Native.Nat.{_≤_, _<_};
+ghost use lib.ListN.{length};
+ghost use Rattle.window.specs.Memory.{memory};
+ghost use Rattle.window.specs.Lent.{leftIn};
+ghost use Rattle.call_base.specs.Answers.{stateOf};
+ghost use Rattle.line_program.specs.Contracts.{Kept};
+ghost use Rattle.windowlines.specs.Run.{Going, Refilled, Written};
 
-// What is kept between lines: the header (of zeros before an accepted n), how many bytes of a line have come (one more than its places
-// if it is too long), the place after the output so far, and whether the input has ended or a write has failed.
-pub struct Program {
-    pub window: AdaptiveReceiverPacketWindow,
-    pub length: usize,
-    pub at: usize,
-    pub ended: bool,
+// The program, how many bytes of the input have come in the part that it stands in, whether the first line that is no call was told,
+// whether a write has failed, and how many turns are left: none once the input has ended or a write has failed.
+pub struct Run {
+    pub program: Program,
+    pub n: usize,
+    pub told: bool,
+    pub failed: bool,
+    pub turns: u64,
 }
 
-// The line of what a line says.
-fn answer_line(
-    w: AdaptiveReceiverPacketWindow,
-    line: &[u8; 64],
-    length: usize,
-    sequences: &mut [u32; 4096],
-    values: &mut [u32; 4096],
-    pages: &mut [u64; PAGE_LIST],
-    blocks: &mut [u64; BLOCK_LIST],
-    returned: &mut [u32; 384],
-    listed_sequences: &mut [u32; 4096],
-    listed_values: &mut [u32; 4096],
-    out: &mut [u8; 262144],
-    at: usize,
-) -> Answered {
-    let parsed = parse_line(line, length);
-    match parsed {
-        Parsed::Call(f) => answer(
-            w,
-            sequences,
-            values,
-            pages,
-            blocks,
-            returned,
-            listed_sequences,
-            listed_values,
-            out,
-            at,
-            f,
-        ),
-        Parsed::Bad => Answered {
-            window: w,
-            at: put_unknown(out, at),
-        },
-    }
-}
-
-// A line's end: its answer, and the output written if less than the longest line's place is left.
-pub fn finish(
-    p: Program,
-    line: &[u8; 64],
-    sequences: &mut [u32; 4096],
-    values: &mut [u32; 4096],
-    pages: &mut [u64; PAGE_LIST],
-    blocks: &mut [u64; BLOCK_LIST],
-    returned: &mut [u32; 384],
-    listed_sequences: &mut [u32; 4096],
-    listed_values: &mut [u32; 4096],
-    out: &mut [u8; 262144],
-) -> Program
-    ensures { λ r. ⌜ Finished r ⌝ }
+// The turns left after another, of which the write failed or not.
+fn turns_after(turns: u64, failed: bool) -> u64
+    ensures { λ r. ⌜ (0 < turns → r < turns) ⌝ }
 {
-    let answered = answer_line(
-        p.window,
-        line,
-        p.length,
-        sequences,
-        values,
-        pages,
-        blocks,
-        returned,
-        listed_sequences,
-        listed_values,
-        out,
-        p.at,
-    );
-    let window = answered.window;
-    let at = answered.at;
-    let next = Program {
-        window,
-        length: 0,
-        at,
-        ended: p.ended,
+    if failed {
+        return 0;
+    }
+    if turns == 0 {
+        return 0;
+    }
+    turns - 1
+}
+
+// The next part of the input, if the one before is used up.
+fn refill(r: Run, input: &mut [u8; 65536]) -> Run
+    ensures { λ s. ⌜ Refilled r s ⌝ }
+{
+    let mut program = r.program;
+    if program.from < r.n {
+        return r;
+    }
+    let n = read_some(input);
+    program.from = 0;
+    let mut run = Run {
+        program,
+        n,
+        told: r.told,
+        failed: r.failed,
+        turns: 0,
     };
-    if 65536 < at {
-        return flush(next, out);
+    if n == 0 {
+        return run;
     }
-    next
+    run.turns = r.turns;
+    run
 }
 
-// The output so far is written. If that fails the program ends, and what has come of a line is dropped.
-pub fn flush(p: Program, out: &[u8; 262144]) -> Program
-    ensures { λ r. ⌜ Flushed p r ⌝ }
+// The output of `program` written.
+fn put_out(r: Run, program: Program, out: &[u8]) -> Run
+    ensures { λ s. ⌜ Written r program s ⌝ }
 {
-    let window = p.window;
-    if !write_part(out, p.at) {
-        return Program {
-            window,
-            length: 0,
-            at: 0,
-            ended: true,
-        };
-    }
-    Program {
-        window,
-        length: p.length,
-        at: 0,
-        ended: p.ended,
+    let mut written = program;
+    let notes = program.notes;
+    let told = tell_first(r.told, notes);
+    let failed = !write_part(out, program.at);
+    written.at = 0;
+    Run {
+        program: written,
+        n: r.n,
+        told,
+        failed,
+        turns: turns_after(r.turns, failed),
     }
 }
 
-// The bytes that came: each line that ends in them is answered, and the rest is kept.
-fn feed(
-    p: Program,
-    chunk: &[u8],
-    line: &mut [u8; 64],
-    sequences: &mut [u32; 4096],
-    values: &mut [u32; 4096],
-    pages: &mut [u64; PAGE_LIST],
-    blocks: &mut [u64; BLOCK_LIST],
-    returned: &mut [u32; 384],
-    listed_sequences: &mut [u32; 4096],
-    listed_values: &mut [u32; 4096],
-    out: &mut [u8; 262144],
-) -> Program {
-    let mut program = p;
-    let mut from: usize = 0;
-    while from < chunk.len() {
-        let to = next_byte(chunk, from, b'\n');
-        program.length = append(line, program.length, &chunk[from..to]);
-        if to == chunk.len() {
-            return program;
-        }
-        program = finish(
-            program,
-            line,
-            sequences,
-            values,
-            pages,
-            blocks,
-            returned,
-            listed_sequences,
-            listed_values,
-            out,
-        );
-        if program.ended {
-            return program;
-        }
-        from = to + 1;
-    }
-    program
-}
-
-// The first `n` bytes of the input, and their output written.
-fn feed_part(
-    p: Program,
+// Lines of the part, from where the program stands.
+fn take_part(
+    r: Run,
     input: &[u8],
-    n: usize,
     line: &mut [u8; 64],
     sequences: &mut [u32; 4096],
     values: &mut [u32; 4096],
@@ -181,13 +94,15 @@ fn feed_part(
     listed_values: &mut [u32; 4096],
     out: &mut [u8; 262144],
 ) -> Program
-    ensures { λ r. ⌜ r .at ≤ p .at ⌝ }
+    requires { ⌜ Kept (stateOf (r .program .window) (memory (now sequences) (now values) (now pages) (now blocks))) ⌝ }
+    requires { ⌜ r .n ≤ length (now input) ⌝ }
+    requires { ⌜ r .program .from ≤ r .n ⌝ }
+    ensures { λ p. ⌜ (Kept (stateOf (p .window) (leftIn sequences values pages blocks))) × (p .from ≤ r .n) ⌝ }
 {
-    if input.len() < n {
-        return p;
-    }
-    let fed = feed(
-        p,
+    let program = r.program;
+    let n = r.n;
+    take_lines(
+        program,
         &input[0..n],
         line,
         sequences,
@@ -198,13 +113,12 @@ fn feed_part(
         listed_sequences,
         listed_values,
         out,
-    );
-    flush(fed, out)
+    )
 }
 
-// Reads once, and answers the lines that end in what came.
+// Bytes are read if the part before is used up, lines of it answered, and the output written.
 pub fn turn(
-    p: Program,
+    r: Run,
     input: &mut [u8; 65536],
     line: &mut [u8; 64],
     sequences: &mut [u32; 4096],
@@ -215,19 +129,18 @@ pub fn turn(
     listed_sequences: &mut [u32; 4096],
     listed_values: &mut [u32; 4096],
     out: &mut [u8; 262144],
-) -> Program
-    ensures { λ r. ⌜ r .at ≤ p .at ⌝ }
+) -> Run
+    requires { ⌜ Going r (memory (now sequences) (now values) (now pages) (now blocks)) ⌝ }
+    ensures { λ s. ⌜ Going s (leftIn sequences values pages blocks) ⌝ }
+    ensures { λ s. ⌜ (0 < r .turns → s .turns < r .turns) ⌝ }
 {
-    let n = read_some(input);
-    if n == 0 {
-        let mut last = p;
-        last.ended = true;
-        return last;
+    let run = refill(r, input);
+    if run.turns == 0 {
+        return run;
     }
-    feed_part(
-        p,
+    let program = take_part(
+        run,
         input,
-        n,
         line,
         sequences,
         values,
@@ -237,5 +150,40 @@ pub fn turn(
         listed_sequences,
         listed_values,
         out,
-    )
+    );
+    put_out(run, program, out)
+}
+
+// The end of the input: the answer of a last line without a line feed.
+pub fn finish(
+    r: Run,
+    line: &[u8; 64],
+    sequences: &mut [u32; 4096],
+    values: &mut [u32; 4096],
+    pages: &mut [u64; PAGE_LIST],
+    blocks: &mut [u64; BLOCK_LIST],
+    returned: &mut [u32; 384],
+    listed_sequences: &mut [u32; 4096],
+    listed_values: &mut [u32; 4096],
+    out: &mut [u8; 262144],
+)
+    requires { ⌜ Going r (memory (now sequences) (now values) (now pages) (now blocks)) ⌝ }
+{
+    if r.failed {
+        return;
+    }
+    let program = r.program;
+    let last = take_last(
+        program,
+        line,
+        sequences,
+        values,
+        pages,
+        blocks,
+        returned,
+        listed_sequences,
+        listed_values,
+        out,
+    );
+    put_out(r, last, out);
 }

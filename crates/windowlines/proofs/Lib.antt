@@ -1,0 +1,2 @@
+-- The line program.
+pub mod RunLaws
