@@ -199,7 +199,7 @@ module _ (at : ℕ) (out : List ℕ) (o : length out ≡ 262144) (few : at ≤ 6
         kept = k;
         after = refl;
         puts = subst (λ (x : List ℕ). Puts at x out r out′) bytes
-        (p .puts (room-pairs (length ss′) (length vs′) n (t .sequences-long ∙ e) (t .values-long ∙ f) (omega (arith, t .sequences-fit))));
+            (p .puts (room-pairs (length ss′) (length vs′) n (t .sequences-long ∙ e) (t .values-long ∙ f) (omega (arith, t .sequences-fit))));
       }
 
   -- ---- a call

@@ -117,7 +117,7 @@ module _ (u : State) (b taken : List ℕ) (at : ℕ) (out : List ℕ) (r : Progr
       let rest : waiting (parts 10 (b ++ taken)) ≡ b ++ taken = ap waiting e ∙ waiting-one (b ++ taken) in
       record {
         answers = subst (λ (ls : List (List ℕ)). Answers (linesDo (keptOf u) ls) u at out (r .at) out) (sym nothing)
-        (subst (λ (x : ℕ). Answers (linesDo (keptOf u) []) u at out x out) (sym a) (no-lines u at out k));
+            (subst (λ (x : ℕ). Answers (linesDo (keptOf u) []) u at out x out) (sym a) (no-lines u at out k));
         waits = subst (Holds line′ (r .length)) (sym rest) h;
       }
 
@@ -143,7 +143,7 @@ takes-on u v w b x y at out₀ out₁ out p r line₁ line s t =
     ap (λ (z : List ℕ). waiting (parts 10 z)) bytes ∙ parts-waiting 10 (b ++ x) y in
     record {
       answers = subst (λ (ls : List (List ℕ)). Answers (linesDo (keptOf u) ls) w at out₀ (r .at) out) (sym lines)
-      (answers-on (keptOf u) (ended (parts 10 (b ++ x))) (ended (parts 10 (waiting (parts 10 (b ++ x)) ++ y))) v w at (p .at) (r .at) out₀ out₁ out (s .answers) (t .answers));
+          (answers-on (keptOf u) (ended (parts 10 (b ++ x))) (ended (parts 10 (waiting (parts 10 (b ++ x)) ++ y))) v w at (p .at) (r .at) out₀ out₁ out (s .answers) (t .answers));
       waits = subst (Holds line (r .length)) (sym rest) (t .waits);
     }
 
@@ -209,6 +209,16 @@ pub last-answered : (u v : State) (line : List ℕ) (n : ℕ) (b : List ℕ) (at
 last-answered u v line n b at out r out′ full z h t =
     subst (λ (p : Printed). Answers p v at out r out′)
     (line-said (keptOf u) line n b full h ∙ sym (lines-one (keptOf u) b) ∙ ap (linesDo (keptOf u)) (sym (some-left n line b z h))) t
+
+-- ---- parts put together
+
+-- what two parts print, one after the other, is what both print as one: x came after the bytes b of a line, then y
+pub in-parts : (k : Window) (b x y : List ℕ)
+    → let p = linesDo k (ended (parts 10 (b ++ x))) in let q = linesDo (p .after) (ended (parts 10 (waiting (parts 10 (b ++ x)) ++ y))) in
+    linesDo k (ended (parts 10 (b ++ (x ++ y)))) ≡ printed (q .after) (p .bytes ++ q .bytes)
+in-parts k b x y =
+    ap (λ (z : List ℕ). linesDo k (ended (parts 10 z))) (sym (append-assoc b x y)) ∙ ap (linesDo k) (parts-ended 10 (b ++ x) y)
+    ∙ lines-on k (ended (parts 10 (b ++ x))) (ended (parts 10 (waiting (parts 10 (b ++ x)) ++ y)))
 
 -- what the lines that ended print and then the last, is what the input prints
 pub whole-input : (k : Window) (input : List ℕ)

@@ -10,7 +10,7 @@ use lib.Seq.{getD-drop, drop-append-seam}
 use borrow.Author.Tests.{ltb-false}
 use Rattle.words.proofs.CaseLaws.{bool}
 use Rattle.window.specs.declared.AdaptiveReceiverPacketWindow.{AdaptiveReceiverPacketWindow}
-use Rattle.window.specs.Memory.{Memory, capacity, pageCount, blockCount, pageWords, blockWords, zeroed}
+use Rattle.window.specs.Memory.{Memory, memory, capacity, pageCount, blockCount, pageWords, blockWords, zeroed}
 use Rattle.window.proofs.MemoryLaws.{capacity-pages}
 use Rattle.window.specs.New.{fresh, cleared}
 use Rattle.model.specs.Calls.{Call}
@@ -26,7 +26,7 @@ use Rattle.laws_soundness.proofs.ProperLaws.{proper-decode}
 use Rattle.laws_soundness.proofs.CallLaws.{call-limits, sound-call}
 use Rattle.laws_refinement.proofs.StateLaws.{meets-does, fits-same}
 use Rattle.call_base.specs.Answers.{stateOf}
-use Rattle.line_program.specs.Program.{keptOf, windowIn, withWindow, withNew}
+use Rattle.line_program.specs.Program.{keptOf, atStart, windowIn, withWindow, withNew}
 use Rattle.line_program.specs.Contracts.{Kept}
 
 -- the window in what is kept is the one of the state
@@ -40,6 +40,28 @@ unfolding fresh
 start-kept h m e =
     let z : h .«window_size» ≡ 0 = ap (λ (x : AdaptiveReceiverPacketWindow). x .«window_size») e in
     record { fit = λ l. absurd (omega (arith, z)); sound = λ l. absurd (omega (arith, z)) }
+
+none-there : (n i : ℕ) → getD (replicate {A = ℕ} n 0) i 0 ≡ 0
+none-there zero i = refl
+none-there (suc n) zero = refl
+none-there (suc n) (suc i) = none-there n i
+
+-- lists of zeros
+pub at-start : (a b c d : ℕ) → keptOf (stateOf (fresh 0 0 0) (memory (replicate a 0) (replicate b 0) (replicate c 0) (replicate d 0))) ≡ atStart
+at-start a b c d = λ i. record {
+  header = fresh 0 0 0;
+  pages = λ (g : ℕ). record {
+    kind = none-there c (pageWords * g + 0) i;
+    occupied = none-there c (pageWords * g + 1) i;
+    filled = none-there c (pageWords * g + 2) i;
+    sequences = λ (j : ℕ). no-cell a g j i;
+    values = λ (j : ℕ). no-cell b g j i;
+  };
+  blocks = λ (h : ℕ). record { nonempty = none-there d (blockWords * h + 0) i; retired = none-there d (blockWords * h + 1) i; live = none-there d (blockWords * h + 2) i };
+}
+  where
+    no-cell : (n g j : ℕ) → cellsAt (replicate n 0) g j ≡ 0
+    no-cell n g j = bool (ltb j 64) (λ t. rw t (none-there n (64 * g + j))) (λ t. rw t)
 
 -- ---- what lies past the named lengths
 
@@ -61,6 +83,7 @@ module _ (size : ℕ) (m m′ : Memory) (s : SamePast size m m′) where
     where
       word : (k : ℕ) → getD (m′ .pages) (pageWords * g + k) 0 ≡ getD (m .pages) (pageWords * g + k) 0
       word k = past (pageWords * pageCount size) (m .pages) (m′ .pages) (s .pages) (pageWords * g + k) (omega arith)
+
       cells : (c : ℕ) → capacity size ≤ 64 * g + c
       cells c = omega (arith, capacity-pages size)
 
