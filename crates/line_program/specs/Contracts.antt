@@ -4,12 +4,13 @@ use mathlib.Core.Bool.{true, cond}
 use mathlib.Core.Option.{Option, none}
 use mathlib.Core.List.{List, [], _∷_, _++_}
 use Prim.Native.Nat.{ℕ, _+_, _-_, _≤_, _<_}
-use denote.Ref.{now}
+use denote.Ref.{RefT, now}
 use lib.Dec.{ltb}
 use lib.ListN.{length, take, drop}
 use Rattle.line_text.specs.Lines.{Line, lineOf, parts, ended, waiting}
 use Rattle.line_text.specs.PrintContracts.{Puts}
 use Rattle.window.specs.declared.AdaptiveReceiverPacketWindow.{AdaptiveReceiverPacketWindow}
+use Rattle.window.specs.Memory.{memory}
 use Rattle.window.specs.Lent.{Lent, foundIn, leftIn}
 use Rattle.model.specs.Window.{Window}
 use Rattle.model.specs.Sound.{Sound}
@@ -23,6 +24,10 @@ use Rattle.line_program.specs.declared.Program.{Program}
 pub record Kept (u : State) : Type 0 where
   pub fit : 0 < u .header .«window_size» → lengthsFit u ≡ true
   pub sound : 0 < u .header .«window_size» → Sound (windowOf u)
+
+-- as a signature says it, of lists as a function finds them
+abbrev pub KeptIn : AdaptiveReceiverPacketWindow → (sequences values pages blocks : RefT (List ℕ)) → Type 0
+KeptIn w s v p b = Kept (stateOf w (memory (now s) (now v) (now p) (now b)))
 
 -- a line was answered as p says: its bytes stand from `at` on, and r is the place after them
 pub record Answers (p : Printed) (u′ : State) (at : ℕ) (out : List ℕ) (r : ℕ) (out′ : List ℕ) : Type 0 where

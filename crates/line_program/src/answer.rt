@@ -16,14 +16,11 @@ use window::memory::PAGE_SLOTS;
 use window::memory::PAGE_WORDS;
 ghost use mathlib.Core.Path.{_≡_};
 ghost use mathlib.Core.Bool.{true};
-ghost use mathlib.Core.List.{List};
-ghost use Prim.Native.Nat.{ℕ, _≤_, _<_};
+ghost use Prim.Native.Nat.{_≤_, _<_};
 ghost use Rattle.line_text.specs.Contracts.{saidBy, lineAnswer};
-ghost use Rattle.window.specs.Memory.{memory};
-ghost use Rattle.call_base.specs.Answers.{stateOf};
 ghost use Rattle.line_calls.specs.Calls.{callOf, called, commandOf};
 ghost use Rattle.line_program.specs.Program.{unknownLine, newLine, listLine, commandLine, saidLine};
-ghost use Rattle.line_program.specs.Contracts.{Kept, AnswersBy, gathered};
+ghost use Rattle.line_program.specs.Contracts.{KeptIn, AnswersBy, gathered};
 
 // The words for the 64 pages of a window of 4096, and for their one block.
 pub const PAGE_LIST: usize = 4096 / PAGE_SLOTS * PAGE_WORDS;
@@ -46,7 +43,7 @@ fn unknown(
     out: &mut [u8; 262144],
     at: usize,
 ) -> Answered
-    requires { ⌜ Kept (stateOf w (memory (now sequences) (now values) (now pages) (now blocks))) ⌝ }
+    requires { ⌜ KeptIn w sequences values pages blocks ⌝ }
     requires { ⌜ at ≤ 65536 ⌝ }
     ensures { λ r. ⌜ AnswersBy unknownLine w sequences values pages blocks out at r ⌝ }
 {
@@ -68,7 +65,7 @@ fn create(
     at: usize,
     f: Fields,
 ) -> Answered
-    requires { ⌜ Kept (stateOf w (memory (now sequences) (now values) (now pages) (now blocks))) ⌝ }
+    requires { ⌜ KeptIn w sequences values pages blocks ⌝ }
     requires { ⌜ at ≤ 65536 ⌝ }
     ensures { λ r. ⌜ AnswersBy (λ k. newLine k (f .first) (f .second) (f .third)) w sequences values pages blocks out at r ⌝ }
 {
@@ -108,7 +105,7 @@ fn list(
     out: &mut [u8; 262144],
     at: usize,
 ) -> Answered
-    requires { ⌜ Kept (stateOf w (memory (now sequences) (now values) (now pages) (now blocks))) ⌝ }
+    requires { ⌜ KeptIn w sequences values pages blocks ⌝ }
     requires { ⌜ at ≤ 65536 ⌝ }
     requires { ⌜ 0 < w .«window_size» ⌝ }
     ensures { λ r. ⌜ AnswersBy listLine w sequences values pages blocks out at r ⌝ }
@@ -140,7 +137,7 @@ fn answer_call(
     at: usize,
     f: Fields,
 ) -> Answered
-    requires { ⌜ Kept (stateOf w (memory (now sequences) (now values) (now pages) (now blocks))) ⌝ }
+    requires { ⌜ KeptIn w sequences values pages blocks ⌝ }
     requires { ⌜ at ≤ 65536 ⌝ }
     requires { ⌜ 0 < w .«window_size» ⌝ }
     ensures { λ r. ⌜ AnswersBy (λ k. commandLine k (f .letter) (called (callOf (saidBy f) true))) w sequences values pages blocks out at r ⌝ }
@@ -183,7 +180,7 @@ fn answer(
     at: usize,
     f: Fields,
 ) -> Answered
-    requires { ⌜ Kept (stateOf w (memory (now sequences) (now values) (now pages) (now blocks))) ⌝ }
+    requires { ⌜ KeptIn w sequences values pages blocks ⌝ }
     requires { ⌜ at ≤ 65536 ⌝ }
     ensures { λ r. ⌜ AnswersBy (λ k. commandLine k (f .letter) (commandOf (saidBy f))) w sequences values pages blocks out at r ⌝ }
 {
@@ -234,7 +231,7 @@ pub fn answer_line(
     out: &mut [u8; 262144],
     at: usize,
 ) -> Answered
-    requires { ⌜ Kept (stateOf w (memory (now sequences) (now values) (now pages) (now blocks))) ⌝ }
+    requires { ⌜ KeptIn w sequences values pages blocks ⌝ }
     requires { ⌜ at ≤ 65536 ⌝ }
     ensures { λ r. ⌜ AnswersBy (λ k. saidLine k (gathered (now (line .entry)) length)) w sequences values pages blocks out at r ⌝ }
 {

@@ -12,10 +12,9 @@ use notes::note;
 use window::AdaptiveReceiverPacketWindow;
 ghost use Prim.Native.Nat.{_≤_, _<_};
 ghost use lib.ListN.{length};
-ghost use Rattle.window.specs.Memory.{memory};
 ghost use Rattle.window.specs.Lent.{leftIn};
 ghost use Rattle.call_base.specs.Answers.{stateOf};
-ghost use Rattle.line_program.specs.Contracts.{Kept, TakesBy, Stops, EndsBy};
+ghost use Rattle.line_program.specs.Contracts.{Kept, KeptIn, TakesBy, Stops, EndsBy};
 
 // What is kept between lines: the header (of zeros before an accepted n), how many bytes of a line have come (one more than its places
 // if it is too long), the place in the part of the input after what was taken, the place after the output so far, and the notes.
@@ -41,7 +40,7 @@ fn take_line(
     listed_values: &mut [u32; 4096],
     out: &mut [u8; 262144],
 ) -> Program
-    requires { ⌜ Kept (stateOf (p .window) (memory (now sequences) (now values) (now pages) (now blocks))) ⌝ }
+    requires { ⌜ KeptIn (p .window) sequences values pages blocks ⌝ }
     requires { ⌜ p .at ≤ 65536 ⌝ }
     requires { ⌜ p .from < length (now part) ⌝ }
     ensures { λ r. ⌜ (p .from < r .from) × (r .from ≤ length (now (part .entry))) ⌝ }
@@ -101,7 +100,7 @@ pub fn take_lines(
     listed_values: &mut [u32; 4096],
     out: &mut [u8; 262144],
 ) -> Program
-    requires { ⌜ Kept (stateOf (p .window) (memory (now sequences) (now values) (now pages) (now blocks))) ⌝ }
+    requires { ⌜ KeptIn (p .window) sequences values pages blocks ⌝ }
     requires { ⌜ p .from ≤ length (now part) ⌝ }
     ensures { λ r. ⌜ TakesBy p (now (part .entry)) line sequences values pages blocks out r ⌝ }
     ensures { λ r. ⌜ Stops p (length (now (part .entry))) r ⌝ }
@@ -142,7 +141,7 @@ pub fn take_last(
     listed_values: &mut [u32; 4096],
     out: &mut [u8; 262144],
 ) -> Program
-    requires { ⌜ Kept (stateOf (p .window) (memory (now sequences) (now values) (now pages) (now blocks))) ⌝ }
+    requires { ⌜ KeptIn (p .window) sequences values pages blocks ⌝ }
     requires { ⌜ p .at ≤ 65536 ⌝ }
     ensures { λ r. ⌜ EndsBy p line sequences values pages blocks out r ⌝ }
 {

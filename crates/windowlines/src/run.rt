@@ -12,7 +12,7 @@ ghost use lib.ListN.{length};
 ghost use Rattle.window.specs.Memory.{memory};
 ghost use Rattle.window.specs.Lent.{leftIn};
 ghost use Rattle.call_base.specs.Answers.{stateOf};
-ghost use Rattle.line_program.specs.Contracts.{Kept};
+ghost use Rattle.line_program.specs.Contracts.{Kept, KeptIn};
 ghost use Rattle.windowlines.specs.Run.{Going, Refilled, Written};
 
 // The program, how many bytes of the input have come in the part that it stands in, whether the first line that is no call was told,
@@ -94,7 +94,7 @@ fn take_part(
     listed_values: &mut [u32; 4096],
     out: &mut [u8; 262144],
 ) -> Program
-    requires { ⌜ Kept (stateOf (r .program .window) (memory (now sequences) (now values) (now pages) (now blocks))) ⌝ }
+    requires { ⌜ KeptIn (r .program .window) sequences values pages blocks ⌝ }
     requires { ⌜ r .n ≤ length (now input) ⌝ }
     requires { ⌜ r .program .from ≤ r .n ⌝ }
     ensures { λ p. ⌜ (Kept (stateOf (p .window) (leftIn sequences values pages blocks))) × (p .from ≤ r .n) ⌝ }
