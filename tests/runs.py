@@ -454,9 +454,9 @@ def put_whole(module, run, whole):
 
 # ---- a small repository with these theorems, and the prover's word on it
 
-def unfoldable():
-    """The modules of CRATES, each with the definitions that a proof must name to compute with them."""
-    for crate in CRATES:
+def unfoldable(crates):
+    """The modules of crates, each with the definitions that a proof must name to compute with them."""
+    for crate in crates:
         for path in sorted((ROOT / 'crates' / crate / 'specs').glob('*.antt')):
             names = re.findall(r'^ *unfoldable (?:abbrev )?pub (\S+)', path.read_text(), re.M)
             if names:
@@ -470,7 +470,7 @@ def calls_named():
 
 
 def replay_text():
-    found = list(unfoldable())
+    found = list(unfoldable(CRATES))
     uses = '\n'.join('use %s.{%s}' % (module, ', '.join(names)) for module, names in found)
     names = ' '.join(name for _, names in found for name in names)
     return REPLAY.replace('@CALLS@', calls_named()).replace('@USES@', uses).replace('@UNFOLDING@', names)
@@ -497,10 +497,10 @@ def lay_out(folder, crates):
     (folder / 'crates.txt').write_text('\n'.join(rows) + '\n')
 
 
-def prove(crates):
-    """Whether all is proved, and what the prover says against it: module, theorem, message."""
-    if subprocess.run(['rt', 'check', CRATES[-1]], cwd=ROOT, stdout=subprocess.DEVNULL).returncode:
-        raise SystemExit('the crates of the definitions are not proved: rt check %s' % CRATES[-1])
+def prove(crates, last=CRATES[-1], lay_out=lay_out):
+    """Whether all is proved, and what the prover says against it: module, theorem, message. The definitions are those up to crate `last`."""
+    if subprocess.run(['rt', 'check', last], cwd=ROOT, stdout=subprocess.DEVNULL).returncode:
+        raise SystemExit('the crates of the definitions are not proved: rt check %s' % last)
     with tempfile.TemporaryDirectory() as folder:
         lay_out(Path(folder), crates)
         done = subprocess.run(['rt', 'check', *crates], cwd=folder, capture_output=True, text=True)
