@@ -2,10 +2,12 @@
 """Every exported function has the contract of its own call, and the axioms are those that README names.
 
 Exported are the calls of document 01 by value, their host forms, the functions in C's calling convention, and the line parser, what
-makes a line's call, what tells a line's fault, and the printer. Of each this is asked: no `requires`, and as `ensures` nothing but the contract record of its kind, at the call of its own name
-with its own parameters in their order (`new`, which is no call, has a record of its own, and the version a number). The records themselves are asked to be
-the contract of every call at the whole step and the whole soundness. Every call of `Call` and `Query` is exported, and every
-exported function is of a call there, so that demand 3 speaks of it. The order of refusals is computed for every call.
+makes a line's call, what tells a line's fault, the printer, and the line program on slices. Of each this is asked: no `requires`, and
+as `ensures` nothing but the contract record of its kind, at the call of its own name with its own parameters in their order (`new`,
+which is no call, has a record of its own, and the version a number). The line program asks for what it keeps between lines: its
+`requires` and `ensures` stand here word for word. The records themselves are asked to be the contract of every call at the whole step
+and the whole soundness. Every call of `Call` and `Query` is exported, and every exported function is of a call there, so that demand 3
+speaks of it. The order of refusals is computed for every call.
 
     tests/exported.py               the test; the logs of the last check are read, so the crates must be proved first
     tests/exported.py --selftest    wrong contracts, each of which must be noticed
@@ -33,7 +35,22 @@ KINDS = {
 OTHERS = {('c_calls', 'packet_window_version'): 'r ≡ version'}
 # new: crate, function, record, where it is defined
 NEW = [('window', 'new', 'NewBy', 'window', 'New'), ('c_calls', 'packet_window_new', 'CreatesBy', 'c_calls', 'Numbers')]
-TEXT = {'line_text': ['parse'], 'line_calls': ['call', 'live_pairs'], 'line_faults': ['fault_of'], 'line_output': ['put_line', 'put_list', 'put_unknown']}
+TEXT = {'line_text': ['parse'], 'line_calls': ['call', 'live_pairs'], 'line_faults': ['fault_of'], 'line_output': ['put_line', 'put_list', 'put_unknown'],
+        'line_program': ['answer_line', 'take_lines', 'take_last', 'note']}
+# the functions there that ask for what the line program keeps between lines: every `requires` and `ensures`, word for word
+KEPT = 'Kept (stateOf {} (memory (now sequences) (now values) (now pages) (now blocks)))'
+KEEPS = {
+    ('line_program', 'answer_line'): (
+        [KEPT.format('w'), 'at ≤ 65536'],
+        ['AnswersBy (λ k. saidLine k (gathered (now (line .entry)) length)) w sequences values pages blocks out at r']),
+    ('line_program', 'take_lines'): (
+        [KEPT.format('(p .window)'), 'p .from ≤ length (now part)'],
+        ['TakesBy p (now (part .entry)) line sequences values pages blocks out r', 'Stops p (length (now (part .entry))) r',
+         'Kept (stateOf (r .window) (leftIn sequences values pages blocks))']),
+    ('line_program', 'take_last'): (
+        [KEPT.format('(p .window)'), 'p .at ≤ 65536'],
+        ['EndsBy p line sequences values pages blocks out r']),
+}
 # where the order of refusals is computed, at `order`
 EXAMPLES = 'crates/model/proofs/Examples.antt'
 # what the records say: each line stands in its file, word for word
@@ -61,6 +78,7 @@ class Function:
         self.crate, self.path, self.name, self.head = crate, path, found['name'], found['head']
         self.parameters = [p.split(':')[0].strip() for p in found['parameters'].split(',') if p.strip()]
         self.contracts = [' '.join(text.split()) for text in re.findall(r'ensures \{ λ r\. ⌜(.*?)⌝ \}', self.head, re.DOTALL)]
+        self.asks = [' '.join(text.split()) for text in re.findall(r'requires \{ ⌜(.*?)⌝ \}', self.head, re.DOTALL)]
 
     def wrong(self, text):
         return f'{self.crate}::{self.name}: {text}'
@@ -151,9 +169,12 @@ def problems(texts):
         for function in functions(texts, crate):
             if function.name in names and 'pub' in function.head:
                 seen[crate, function.name] = function
-                if len(function.contracts) != 1:
+                if (crate, function.name) in KEEPS:
+                    if (function.asks, function.contracts) != KEEPS[crate, function.name]:
+                        wrong.append(function.wrong(f'it asks {function.asks} and its contract is {function.contracts}'))
+                elif len(function.contracts) != 1:
                     wrong.append(function.wrong('it has no ensures'))
-    wrong += [function.wrong('it has a requires') for function in seen.values() if 'requires {' in function.head]
+    wrong += [function.wrong('it has a requires') for place, function in seen.items() if 'requires {' in function.head and place not in KEEPS]
     names = {name for crate, name in seen}
     wrong += [f'{name} is not exported by value' for name in calls if name not in {n for c, n in seen if KINDS.get(c) == BY_VALUE}]
     wrong += [f'packet_window_{name} was not found' for name in [*calls, 'new'] if f'packet_window_{name}' not in names]
@@ -204,6 +225,10 @@ WRONG = [
     ('crates/c_calls/src/lib.rt', 'CreatesBy «window_size» n «demote_at»', 'CreatesBy «window_size» n n'),
     ('crates/call_host/src/lib.rt', 'HostMeetsBy (removeOf sequence) w', 'HostMeetsBy (removeOf 0) w'),
     ('crates/c_host/src/lib.rt', 'OutcomeMeetsInto (release-retired budget)', 'OutcomeMeetsInto (release-retired 256)'),
+    # the line program: of no bytes of the line; where it stops is not said; a part that has been taken is not allowed for
+    ('crates/line_program/src/answer.rt', 'saidLine k (gathered (now (line .entry)) length)', 'saidLine k (gathered (now (line .entry)) 0)'),
+    ('crates/line_program/src/lib.rt', 'Stops p (length (now (part .entry))) r', 'r ≡ r'),
+    ('crates/line_program/src/lib.rt', '    requires { ⌜ p .from ≤ length (now part) ⌝ }', '    requires { ⌜ p .from < length (now part) ⌝ }'),
 ]
 
 
