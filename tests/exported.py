@@ -38,7 +38,7 @@ NEW = [('window', 'new', 'NewBy', 'window', 'New'), ('c_calls', 'packet_window_n
 TEXT = {'line_text': ['parse'], 'line_calls': ['call', 'live_pairs'], 'line_faults': ['fault_of'], 'line_output': ['put_line', 'put_list', 'put_unknown'],
         'line_program': ['answer_line', 'take_lines', 'take_last', 'note']}
 # the functions there that ask for what the line program keeps between lines: every `requires` and `ensures`, word for word
-KEPT = 'Kept (stateOf {} (memory (now sequences) (now values) (now pages) (now blocks)))'
+KEPT = 'KeptIn {} sequences values pages blocks'
 KEEPS = {
     ('line_program', 'answer_line'): (
         [KEPT.format('w'), 'at ≤ 65536'],
@@ -60,6 +60,11 @@ DEFINED = {
     'crates/call_base/specs/Answers.antt': [
         'MeetsBy c w ss vs pages blocks r = Meets c (stateOf w (foundIn ss vs pages blocks)) [] (leftOf r (leftIn ss vs pages blocks) [])',
         '    Meets (c (leb 384 (length (now (l .entry))))) (stateOf w (foundIn ss vs pages blocks)) (now (l .entry)) (leftOf r (leftIn ss vs pages blocks) (now (l .exit)))'],
+    'crates/line_program/specs/Contracts.antt': [
+        'KeptIn w s v p b = Kept (stateOf w (memory (now s) (now v) (now p) (now b)))',
+        '    Answers (p (keptOf (stateOf w (foundIn ss vs pages blocks)))) (stateOf (r .window) (leftIn ss vs pages blocks)) at (now (out .entry)) (r .at) (now (out .exit))',
+        '  pub answers : Answers (linesDo (keptOf u) (ended (parts 10 (b ++ taken)))) u′ at out (r .at) out′',
+        '  pub waits : Holds line′ (r .length) (waiting (parts 10 (b ++ taken)))'],
     'crates/call_host/specs/Lent.antt': [
         'HostMeetsBy c w ss vs pages blocks r = Meets c (stateOf (now (w .entry)) (foundIn ss vs pages blocks)) [] (leftAt (now (w .exit)) r (leftIn ss vs pages blocks) [])',
         '    Meets (c (leb 384 (length (now (l .entry))))) (stateOf (now (w .entry)) (foundIn ss vs pages blocks)) (now (l .entry))'],
