@@ -2,7 +2,7 @@
 use line_faults::Fault;
 use line_faults::fault_of;
 ghost use mathlib.Core.Path.{_≡_};
-ghost use Rattle.line_program.specs.Notes.{noted};
+ghost use Rattle.line_program.specs.Notes.{noNotes, noted};
 
 // The number of lines answered; whether one of them was no call, and then the number of the first, from 1 on, and what is wrong with it.
 pub struct Notes {
@@ -14,7 +14,9 @@ pub struct Notes {
 
 impl Notes {
     // Before the first line. The number and the fault say nothing yet.
-    pub fn none() -> Notes {
+    pub fn none() -> Notes
+        ensures { λ r. ⌜ r ≡ noNotes ⌝ }
+    {
         Notes {
             lines: 0,
             unknown: false,
