@@ -62,9 +62,10 @@ DEFINED = {
         '    Meets (c (leb 384 (length (now (l .entry))))) (stateOf w (foundIn ss vs pages blocks)) (now (l .entry)) (leftOf r (leftIn ss vs pages blocks) (now (l .exit)))'],
     'crates/line_program/specs/Contracts.antt': [
         'KeptIn w s v p b = Kept (stateOf w (memory (now s) (now v) (now p) (now b)))',
-        '    Answers (p (keptOf (stateOf w (foundIn ss vs pages blocks)))) (stateOf (r .window) (leftIn ss vs pages blocks)) at (now (out .entry)) (r .at) (now (out .exit))',
+        '    × Answers (p (keptOf (stateOf w (foundIn ss vs pages blocks)))) (stateOf (r .window) (leftIn ss vs pages blocks)) at (now (out .entry)) (r .at) (now (out .exit))',
         '  pub answers : Answers (linesDo (keptOf u) (ended (parts 10 (b ++ taken)))) u′ at out (r .at) out′',
-        '  pub waits : Holds line′ (r .length) (waiting (parts 10 (b ++ taken)))'],
+        '  pub waits : Holds line′ (r .length) (waiting (parts 10 (b ++ taken)))',
+        '  pub notes : r .notes ≡ notedLines (keptOf u) n (ended (parts 10 (b ++ taken)))'],
     'crates/call_host/specs/Lent.antt': [
         'HostMeetsBy c w ss vs pages blocks r = Meets c (stateOf (now (w .entry)) (foundIn ss vs pages blocks)) [] (leftAt (now (w .exit)) r (leftIn ss vs pages blocks) [])',
         '    Meets (c (leb 384 (length (now (l .entry))))) (stateOf (now (w .entry)) (foundIn ss vs pages blocks)) (now (l .entry))'],

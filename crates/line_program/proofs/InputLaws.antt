@@ -20,7 +20,12 @@ use Rattle.model.specs.Window.{Window}
 use Rattle.model.specs.Contract.{State}
 use Rattle.line_program.specs.declared.Program.{Program}
 use Rattle.line_program.specs.Program.{keptOf, Printed, printed, lineDoes, linesDo, unlessEmpty, linesOf, saidLine}
-use Rattle.line_program.specs.Contracts.{Kept, Answers, gathered, Holds, Takes, between, Stops}
+use Rattle.line_faults.specs.Faults.{faultOfBytes, faultOf}
+use Rattle.line_program.specs.declared.notes.Notes.{Notes}
+use Rattle.line_program.specs.Notes.{noted, faultIn, notedLine, notedLines}
+use Rattle.line_program.proofs.PrintedLaws.{first-put, prints-some}
+use Rattle.line_program.proofs.NoteLaws.{noted-one, noted-on}
+use Rattle.line_program.specs.Contracts.{Kept, Answers, gathered, Holds, Takes, between, Stops, Ends}
 
 -- ---- the bytes of a line that have come
 
@@ -59,6 +64,19 @@ pub line-said : (k : Window) (line : List ℕ) (n : ℕ) (b : List ℕ) → leng
 unfolding lineDoes
 line-said k line n b e h = ap (saidLine k) (holds-says line n b e h)
 
+-- and have the fault of that line
+pub holds-fault : (line : List ℕ) (n : ℕ) (b : List ℕ) → length line ≡ 64 → Holds line n b → faultOf line n ≡ faultIn b
+unfolding faultOf faultIn
+holds-fault line n b e h =
+    bool (ltb (length line) (length b))
+    (λ t.
+    let l = ltb-true (length line) (length b) t in
+    rw (lt-ltb (length line) n (omega (arith, h .long l)), lt-ltb 64 (length b) (omega arith)) refl)
+    (λ t.
+    let l = ltb-false (length line) (length b) t in
+    let s = h .short l in
+    rw (le-ltb (length line) n (omega (arith, s .0, l)), le-ltb 64 (length b) (omega arith)) (ap faultOfBytes (s .1)))
+
 -- ---- line after line
 
 pub lines-one : (k : Window) (l : List ℕ) → linesDo k (l ∷ []) ≡ lineDoes k l
@@ -91,6 +109,10 @@ no-lines : (u : State) (at : ℕ) (out : List ℕ) → Kept u → Answers (lines
 unfolding linesDo
 no-lines u at out k = record { kept = k; after = refl; puts = put-none at out }
 
+no-notes : (k : Window) (n : Notes) → n ≡ notedLines k n []
+unfolding notedLines
+no-notes k n = refl
+
 -- ---- a part of the input
 
 -- no line feed came
@@ -110,32 +132,36 @@ waiting-two : (b : List ℕ) → waiting (b ∷ [] ∷ []) ≡ []
 unfolding waiting
 waiting-two b = refl
 
-module _ (u : State) (b taken : List ℕ) (at : ℕ) (out : List ℕ) (r : Program) (line′ : List ℕ) where
-  pub takes-rest : parts 10 (b ++ taken) ≡ (b ++ taken) ∷ [] → Kept u → r .at ≡ at → Holds line′ (r .length) (b ++ taken) → Takes u b taken at out r line′ u out
-  takes-rest e k a h =
+module _ (u : State) (n : Notes) (b taken : List ℕ) (at : ℕ) (out : List ℕ) (r : Program) (line′ : List ℕ) where
+  pub takes-rest : parts 10 (b ++ taken) ≡ (b ++ taken) ∷ [] → Kept u → r .at ≡ at → Holds line′ (r .length) (b ++ taken) → r .notes ≡ n
+      → Takes u n b taken at out r line′ u out
+  takes-rest e k a h m =
       let nothing : ended (parts 10 (b ++ taken)) ≡ [] = ap ended e ∙ ended-one (b ++ taken) in
       let rest : waiting (parts 10 (b ++ taken)) ≡ b ++ taken = ap waiting e ∙ waiting-one (b ++ taken) in
       record {
         answers = subst (λ (ls : List (List ℕ)). Answers (linesDo (keptOf u) ls) u at out (r .at) out) (sym nothing)
             (subst (λ (x : ℕ). Answers (linesDo (keptOf u) []) u at out x out) (sym a) (no-lines u at out k));
         waits = subst (Holds line′ (r .length)) (sym rest) h;
+        notes = m ∙ no-notes (keptOf u) n ∙ ap (notedLines (keptOf u) n) (sym nothing);
       }
 
   -- a line ended, with nothing after it
   pub takes-line : (v : State) (out′ : List ℕ) (x : List ℕ) → parts 10 (b ++ taken) ≡ x ∷ [] ∷ [] → Answers (lineDoes (keptOf u) x) v at out (r .at) out′
-      → r .length ≡ 0 → Takes u b taken at out r line′ v out′
-  takes-line v out′ x e a z =
+      → r .length ≡ 0 → r .notes ≡ notedLine (keptOf u) n x → Takes u n b taken at out r line′ v out′
+  takes-line v out′ x e a z m =
       let one : ended (parts 10 (b ++ taken)) ≡ x ∷ [] = ap ended e ∙ ended-two x in
       let rest : waiting (parts 10 (b ++ taken)) ≡ [] = ap waiting e ∙ waiting-two x in
       record {
         answers = subst (λ (p : Printed). Answers p v at out (r .at) out′) (sym (ap (linesDo (keptOf u)) one ∙ lines-one (keptOf u) x)) a;
-        waits = subst (Holds line′ (r .length)) (sym rest) (subst (λ (n : ℕ). Holds line′ n []) (sym z) (holds-none line′));
+        waits = subst (Holds line′ (r .length)) (sym rest) (subst (λ (j : ℕ). Holds line′ j []) (sym z) (holds-none line′));
+        notes = m ∙ sym (noted-one (keptOf u) n x) ∙ ap (notedLines (keptOf u) n) (sym one);
       }
 
 -- one part after another
-pub takes-on : (u v w : State) (b x y : List ℕ) (at : ℕ) (out₀ out₁ out : List ℕ) (p r : Program) (line₁ line : List ℕ) → Takes u b x at out₀ p line₁ v out₁
-    → Takes v (waiting (parts 10 (b ++ x))) y (p .at) out₁ r line w out → Takes u b (x ++ y) at out₀ r line w out
-takes-on u v w b x y at out₀ out₁ out p r line₁ line s t =
+pub takes-on : (u v w : State) (n : Notes) (b x y : List ℕ) (at : ℕ) (out₀ out₁ out : List ℕ) (p r : Program) (line₁ line : List ℕ)
+    → Takes u n b x at out₀ p line₁ v out₁ → Takes v (p .notes) (waiting (parts 10 (b ++ x))) y (p .at) out₁ r line w out
+    → Takes u n b (x ++ y) at out₀ r line w out
+takes-on u v w n b x y at out₀ out₁ out p r line₁ line s t =
     let bytes : b ++ (x ++ y) ≡ (b ++ x) ++ y = sym (append-assoc b x y) in
     let lines : ended (parts 10 (b ++ (x ++ y))) ≡ ended (parts 10 (b ++ x)) ++ ended (parts 10 (waiting (parts 10 (b ++ x)) ++ y)) =
     ap (λ (z : List ℕ). ended (parts 10 z)) bytes ∙ parts-ended 10 (b ++ x) y in
@@ -145,6 +171,10 @@ takes-on u v w b x y at out₀ out₁ out p r line₁ line s t =
       answers = subst (λ (ls : List (List ℕ)). Answers (linesDo (keptOf u) ls) w at out₀ (r .at) out) (sym lines)
           (answers-on (keptOf u) (ended (parts 10 (b ++ x))) (ended (parts 10 (waiting (parts 10 (b ++ x)) ++ y))) v w at (p .at) (r .at) out₀ out₁ out (s .answers) (t .answers));
       waits = subst (Holds line (r .length)) (sym rest) (t .waits);
+      notes =
+          t .notes ∙ (λ i. notedLines (s .answers .after i) (s .notes i) (ended (parts 10 (waiting (parts 10 (b ++ x)) ++ y))))
+          ∙ sym (noted-on (keptOf u) n (ended (parts 10 (b ++ x))) (ended (parts 10 (waiting (parts 10 (b ++ x)) ++ y))))
+          ∙ ap (notedLines (keptOf u) n) (sym lines);
     }
 
 -- ---- stretches of a part
@@ -167,6 +197,13 @@ between-feed from to l p q e =
     ap (λ (k : ℕ). take k (drop from l)) n ∙ take-suc (drop from l) (to - from) 0 (omega (arith, length-drop from l))
     ∙ ap (λ (x : ℕ). between from to l ++ (x ∷ [])) (getD-drop from l (to - from) 0 ∙ ap (λ (k : ℕ). getD l k 0) m ∙ e)
 
+-- ---- a line noted: its answer begins where it was put
+
+line-noted : (k : Window) (ns : Notes) (line : List ℕ) (n : ℕ) (b : List ℕ) → length line ≡ 64 → Holds line n b → (v : State) (at : ℕ) (out : List ℕ) (r : ℕ) (out′ : List ℕ)
+    → Answers (lineDoes k b) v at out r out′ → at ≤ length out → noted ns (faultOf line n) (getD out′ at 0) ≡ notedLine k ns b
+line-noted k ns line n b full h v at out r out′ a room =
+    λ i. noted ns (holds-fault line n b full h i) (first-put at (lineDoes k b .bytes) out r out′ (a .puts) (prints-some k b) room i)
+
 -- ---- the bytes of a part up to its next line feed, or to its end
 
 module _ (u : State) (part : List ℕ) (from to : ℕ) (next : NextByte part from 10 to) (line : List ℕ) (n : ℕ) (line′ : List ℕ) (n′ : ℕ)
@@ -174,28 +211,29 @@ module _ (u : State) (part : List ℕ) (from to : ℕ) (next : NextByte part fro
   came : Holds line′ n′ (b ++ between from to part)
   came = holds-more line n b (between from to part) n′ line′ h a (sliced part from 10 to next) same
 
-  pub part-ended : Kept u → (out : List ℕ) (r : Program) → r .from ≡ to → r .length ≡ n′ → Takes u b (between from (r .from) part) (r .at) out r line′ u out
+  pub part-ended : Kept u → (out : List ℕ) (r : Program) → r .from ≡ to → r .length ≡ n′ → Takes u (r .notes) b (between from (r .from) part) (r .at) out r line′ u out
   part-ended k out r e f =
       let taken : between from (r .from) part ≡ between from to part = ap (λ (x : ℕ). between from x part) e in
-      subst (λ (x : List ℕ). Takes u b x (r .at) out r line′ u out) (sym taken)
-      (takes-rest u b (between from to part) (r .at) out r line′ (came .whole) k refl (subst (λ (x : ℕ). Holds line′ x (b ++ between from to part)) (sym f) came))
+      subst (λ (x : List ℕ). Takes u (r .notes) b x (r .at) out r line′ u out) (sym taken)
+      (takes-rest u (r .notes) b (between from to part) (r .at) out r line′ (came .whole) k refl (subst (λ (x : ℕ). Holds line′ x (b ++ between from to part)) (sym f) came) refl)
 
-  pub line-ended : to < length part → length line ≡ 64 → (v : State) (at : ℕ) (out : List ℕ) (r : Program) (out′ : List ℕ)
-      → Answers (saidLine (keptOf u) (gathered line′ n′)) v at out (r .at) out′ → r .from ≡ to + 1 → r .length ≡ 0
-      → Takes u b (between from (r .from) part) at out r line′ v out′
-  line-ended l full v at out r out′ t e f =
+  pub line-ended : to < length part → length line ≡ 64 → (v : State) (ns : Notes) (at : ℕ) (out : List ℕ) (r : Program) (out′ : List ℕ)
+      → Answers (saidLine (keptOf u) (gathered line′ n′)) v at out (r .at) out′ → at ≤ length out → r .from ≡ to + 1 → r .length ≡ 0
+      → r .notes ≡ noted ns (faultOf line′ n′) (getD out′ at 0) → Takes u ns b (between from (r .from) part) at out r line′ v out′
+  line-ended l full v ns at out r out′ t room e f m =
       let seg = between from to part in
       let taken : between from (r .from) part ≡ seg ++ (10 ∷ []) = ap (λ (x : ℕ). between from x part) e ∙ between-feed from to part (next .from-le) l (next .found l) in
       let whole : parts 10 (b ++ (seg ++ (10 ∷ []))) ≡ (b ++ seg) ∷ [] ∷ [] =
       ap (parts 10) (sym (append-assoc b seg (10 ∷ []))) ∙ ends-part 10 10 (b ++ seg) (came .whole) refl in
       let said = subst (λ (p : Printed). Answers p v at out (r .at) out′) (line-said (keptOf u) line′ n′ (b ++ seg) (same ∙ full) came) t in
-      subst (λ (x : List ℕ). Takes u b x at out r line′ v out′) (sym taken) (takes-line u b (seg ++ (10 ∷ [])) at out r line′ v out′ (b ++ seg) whole said f)
+      let told : r .notes ≡ notedLine (keptOf u) ns (b ++ seg) = m ∙ line-noted (keptOf u) ns line′ n′ (b ++ seg) (same ∙ full) came v at out (r .at) out′ said room in
+      subst (λ (x : List ℕ). Takes u ns b x at out r line′ v out′) (sym taken) (takes-line u ns b (seg ++ (10 ∷ [])) at out r line′ v out′ (b ++ seg) whole said f told)
 
 -- ---- the end of the input
 
-pub none-left : (u : State) (line : List ℕ) (b : List ℕ) (at : ℕ) (out : List ℕ) → Kept u → Holds line 0 b → Answers (linesDo (keptOf u) (unlessEmpty b)) u at out at out
-none-left u line [] at out k h = no-lines u at out k
-none-left u line (x ∷ b) at out k h =
+pub none-left : (u : State) (line : List ℕ) (b : List ℕ) (out : List ℕ) (r : Program) → Kept u → Holds line 0 b → Ends u (r .notes) b (r .at) out r u out
+none-left u line [] out r k h = record { answers = no-lines u (r .at) out k; notes = no-notes (keptOf u) (r .notes) }
+none-left u line (x ∷ b) out r k h =
     bool (ltb (length line) (length (x ∷ b)))
     (λ t. absurd (omega (arith, h .long (ltb-true (length line) (length (x ∷ b)) t))))
     (λ t. absurd (omega (arith, h .short (ltb-false (length line) (length (x ∷ b)) t) .0)))
@@ -204,11 +242,18 @@ some-left : (n : ℕ) (line b : List ℕ) → (n ≡ 0 → ⊥) → Holds line n
 some-left n line [] z h = absurd (z (h .short (omega arith) .0))
 some-left n line (x ∷ b) z h = refl
 
-pub last-answered : (u v : State) (line : List ℕ) (n : ℕ) (b : List ℕ) (at : ℕ) (out : List ℕ) (r : ℕ) (out′ : List ℕ) → length line ≡ 64 → (n ≡ 0 → ⊥) → Holds line n b
-    → Answers (saidLine (keptOf u) (gathered line n)) v at out r out′ → Answers (linesDo (keptOf u) (unlessEmpty b)) v at out r out′
-last-answered u v line n b at out r out′ full z h t =
-    subst (λ (p : Printed). Answers p v at out r out′)
-    (line-said (keptOf u) line n b full h ∙ sym (lines-one (keptOf u) b) ∙ ap (linesDo (keptOf u)) (sym (some-left n line b z h))) t
+pub last-answered : (u v : State) (ns : Notes) (line : List ℕ) (n : ℕ) (b : List ℕ) (at : ℕ) (out : List ℕ) (r : Program) (out′ : List ℕ) → length line ≡ 64 → (n ≡ 0 → ⊥)
+    → Holds line n b → Answers (saidLine (keptOf u) (gathered line n)) v at out (r .at) out′ → at ≤ length out → r .notes ≡ noted ns (faultOf line n) (getD out′ at 0)
+    → Ends u ns b at out r v out′
+last-answered u v ns line n b at out r out′ full z h t room m =
+    let one : unlessEmpty b ≡ b ∷ [] = some-left n line b z h in
+    let said = subst (λ (p : Printed). Answers p v at out (r .at) out′) (line-said (keptOf u) line n b full h) t in
+    record {
+      answers = subst (λ (p : Printed). Answers p v at out (r .at) out′) (sym (lines-one (keptOf u) b) ∙ ap (linesDo (keptOf u)) (sym one)) said;
+      notes =
+          m ∙ line-noted (keptOf u) ns line n b full h v at out (r .at) out′ said room ∙ sym (noted-one (keptOf u) ns b)
+          ∙ ap (notedLines (keptOf u) ns) (sym one);
+    }
 
 -- ---- parts put together
 
@@ -235,7 +280,7 @@ pub record TakenSoFar (part line : List ℕ) (u : State) (out : List ℕ) (p : P
   pub from-le : p .from ≤ r .from
   pub le-end : r .from ≤ length part
   pub same : r .from ≤ p .from → r .at ≡ p .at
-  pub takes : (b : List ℕ) → Holds line (p .length) b → Takes u b (between (p .from) (r .from) part) (p .at) out r line′ u′ out′
+  pub takes : (b : List ℕ) → Holds line (p .length) b → Takes u (p .notes) b (between (p .from) (r .from) part) (p .at) out r line′ u′ out′
 
 pub taken-none : (part line : List ℕ) (u : State) (out : List ℕ) (p : Program) → Kept u → p .from ≤ length part → TakenSoFar part line u out p line u out p
 taken-none part line u out p k l = record {
@@ -245,14 +290,14 @@ taken-none part line u out p k l = record {
   same = λ e. refl;
   takes = λ b h.
       let nothing : b ++ between (p .from) (p .from) part ≡ b = ap (λ (x : List ℕ). b ++ x) (between-none (p .from) part) ∙ append-nil b in
-      takes-rest u b (between (p .from) (p .from) part) (p .at) out p line (subst (λ (x : List ℕ). parts 10 x ≡ x ∷ []) (sym nothing) (h .whole)) k refl
-      (subst (Holds line (p .length)) (sym nothing) h);
+      takes-rest u (p .notes) b (between (p .from) (p .from) part) (p .at) out p line (subst (λ (x : List ℕ). parts 10 x ≡ x ∷ []) (sym nothing) (h .whole)) k refl
+      (subst (Holds line (p .length)) (sym nothing) h) refl;
 }
 
 module _ (part line : List ℕ) (u : State) (out : List ℕ) (p : Program) (line₁ : List ℕ) (v : State) (out₁ : List ℕ) (q : Program)
     (s : TakenSoFar part line u out p line₁ v out₁ q) where
   pub taken-more : (line₂ : List ℕ) (w : State) (out₂ : List ℕ) (r : Program) → (q .from < r .from) × (r .from ≤ length part)
-      → ((b : List ℕ) → Holds line₁ (q .length) b → Takes v b (between (q .from) (r .from) part) (q .at) out₁ r line₂ w out₂) → Kept w
+      → ((b : List ℕ) → Holds line₁ (q .length) b → Takes v (q .notes) b (between (q .from) (r .from) part) (q .at) out₁ r line₂ w out₂) → Kept w
       → TakenSoFar part line u out p line₂ w out₂ r
   taken-more line₂ w out₂ r l t k = record {
     kept = k;
@@ -261,8 +306,8 @@ module _ (part line : List ℕ) (u : State) (out : List ℕ) (p : Program) (line
     same = λ e. absurd (omega (arith, s .from-le, l .0));
     takes = λ b h.
         let x = s .takes b h in
-        subst (λ (y : List ℕ). Takes u b y (p .at) out r line₂ w out₂) (sym (between-on (p .from) (q .from) (r .from) part (s .from-le) (omega (arith, l .0))))
-        (takes-on u v w b (between (p .from) (q .from) part) (between (q .from) (r .from) part) (p .at) out out₁ out₂ q r line₁ line₂ x
+        subst (λ (y : List ℕ). Takes u (p .notes) b y (p .at) out r line₂ w out₂) (sym (between-on (p .from) (q .from) (r .from) part (s .from-le) (omega (arith, l .0))))
+        (takes-on u v w (p .notes) b (between (p .from) (q .from) part) (between (q .from) (r .from) part) (p .at) out out₁ out₂ q r line₁ line₂ x
         (t (waiting (parts 10 (b ++ between (p .from) (q .from) part))) (x .waits)));
   }
 

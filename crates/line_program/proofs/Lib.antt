@@ -2,6 +2,7 @@
 pub mod KeptLaws
 pub mod AnswerLaws
 pub mod CommandLaws
+pub mod PrintedLaws
 pub mod InputLaws
 pub mod NoteLaws
 pub mod Examples

@@ -19,6 +19,8 @@ use Rattle.call_base.specs.Answers.{stateOf}
 use Rattle.line_program.specs.Program.{keptOf, Printed, linesDo, unlessEmpty}
 use Rattle.line_program.specs.declared.answer.Answered.{Answered}
 use Rattle.line_program.specs.declared.Program.{Program}
+use Rattle.line_program.specs.declared.notes.Notes.{Notes}
+use Rattle.line_program.specs.Notes.{notedLines}
 
 -- what the program keeps between lines: once an n is accepted, a sound window with lists as long as it names them
 pub record Kept (u : State) : Type 0 where
@@ -38,7 +40,8 @@ pub record Answers (p : Printed) (u′ : State) (at : ℕ) (out : List ℕ) (r :
 -- as a signature says it
 abbrev pub AnswersBy : (Window → Printed) → AdaptiveReceiverPacketWindow → (sequences values pages blocks out : Lent) → ℕ → Answered → Type 0
 AnswersBy p w ss vs pages blocks out at r =
-    Answers (p (keptOf (stateOf w (foundIn ss vs pages blocks)))) (stateOf (r .window) (leftIn ss vs pages blocks)) at (now (out .entry)) (r .at) (now (out .exit))
+    (at ≤ length (now (out .entry)))
+    × Answers (p (keptOf (stateOf w (foundIn ss vs pages blocks)))) (stateOf (r .window) (leftIn ss vs pages blocks)) at (now (out .entry)) (r .at) (now (out .exit))
 
 -- ---- a line that comes in parts
 
@@ -54,10 +57,12 @@ pub record Holds (line : List ℕ) (n : ℕ) (b : List ℕ) : Type 0 where
 
 -- ---- a part of the input
 
--- `taken` came of the input after the bytes b of a line, in state u: each line that ended was answered, the rest waits
-pub record Takes (u : State) (b taken : List ℕ) (at : ℕ) (out : List ℕ) (r : Program) (line′ : List ℕ) (u′ : State) (out′ : List ℕ) : Type 0 where
+-- `taken` came of the input after the bytes b of a line, in state u with notes n: each line that ended was answered and noted, the rest
+-- waits
+pub record Takes (u : State) (n : Notes) (b taken : List ℕ) (at : ℕ) (out : List ℕ) (r : Program) (line′ : List ℕ) (u′ : State) (out′ : List ℕ) : Type 0 where
   pub answers : Answers (linesDo (keptOf u) (ended (parts 10 (b ++ taken)))) u′ at out (r .at) out′
   pub waits : Holds line′ (r .length) (waiting (parts 10 (b ++ taken)))
+  pub notes : r .notes ≡ notedLines (keptOf u) n (ended (parts 10 (b ++ taken)))
 
 -- the bytes of `part` from `from` up to `to`
 abbrev pub between : ℕ → ℕ → List ℕ → List ℕ
@@ -67,7 +72,7 @@ between from to part = take (to - from) (drop from part)
 abbrev pub TakesBy : Program → List ℕ → (line sequences values pages blocks out : Lent) → Program → Type 0
 TakesBy p part line ss vs pages blocks out r =
     (b : List ℕ) → Holds (now (line .entry)) (p .length) b
-    → Takes (stateOf (p .window) (foundIn ss vs pages blocks)) b (between (p .from) (r .from) part) (p .at) (now (out .entry)) r
+    → Takes (stateOf (p .window) (foundIn ss vs pages blocks)) (p .notes) b (between (p .from) (r .from) part) (p .at) (now (out .entry)) r
     (now (line .exit)) (stateOf (r .window) (leftIn ss vs pages blocks)) (now (out .exit))
 
 -- where it stopped: at the end of the part, or with more than 65536 bytes put, and never before a line was taken
@@ -79,9 +84,14 @@ pub record Stops (p : Program) (end : ℕ) (r : Program) : Type 0 where
 
 -- ---- the end of the input
 
--- a last line b without a line feed was answered, if there was one
+-- a last line b without a line feed was answered and noted, if there was one
+pub record Ends (u : State) (n : Notes) (b : List ℕ) (at : ℕ) (out : List ℕ) (r : Program) (u′ : State) (out′ : List ℕ) : Type 0 where
+  pub answers : Answers (linesDo (keptOf u) (unlessEmpty b)) u′ at out (r .at) out′
+  pub notes : r .notes ≡ notedLines (keptOf u) n (unlessEmpty b)
+
+-- as a signature says it
 abbrev pub EndsBy : Program → (line sequences values pages blocks out : Lent) → Program → Type 0
 EndsBy p line ss vs pages blocks out r =
     (b : List ℕ) → Holds (now (line .entry)) (p .length) b
-    → Answers (linesDo (keptOf (stateOf (p .window) (foundIn ss vs pages blocks))) (unlessEmpty b)) (stateOf (r .window) (leftIn ss vs pages blocks))
-    (p .at) (now (out .entry)) (r .at) (now (out .exit))
+    → Ends (stateOf (p .window) (foundIn ss vs pages blocks)) (p .notes) b (p .at) (now (out .entry)) r
+    (stateOf (r .window) (leftIn ss vs pages blocks)) (now (out .exit))

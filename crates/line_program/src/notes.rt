@@ -2,6 +2,7 @@
 use line_faults::Fault;
 use line_faults::fault_of;
 ghost use mathlib.Core.Path.{_≡_};
+ghost use Rattle.line_faults.specs.Faults.{faultOf};
 ghost use Rattle.line_program.specs.Notes.{noNotes, noted};
 
 // The number of lines answered; whether one of them was no call, and then the number of the first, from 1 on, and what is wrong with it.
@@ -28,7 +29,7 @@ impl Notes {
 
 // A line more, of which the answer begins with the byte `first`.
 pub fn note(n: Notes, line: &[u8], length: usize, first: u8) -> Notes
-    ensures { λ r. ⌜ r ≡ noted n (now (line .entry)) length first ⌝ }
+    ensures { λ r. ⌜ r ≡ noted n (faultOf (now (line .entry)) length) first ⌝ }
 {
     let lines = std::num::wrapping_add_u64(n.lines, 1);
     let known = n.fault;

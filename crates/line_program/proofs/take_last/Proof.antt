@@ -36,7 +36,7 @@ returns-2 : tie.Need-returns-2
 returns-2 c =
     let s = c .before .before .before .before .before .before .before .before .before .before .before .before .before .before .before .before .before in
     let u = stateOf (s .args .p .window) (memory (now (s .args .sequences)) (now (s .args .values)) (now (s .args .pages)) (now (s .args .blocks))) in
-    λ b h. last-answered u _ _ _ b _ _ _ _ (c .before .before .note-arg .given .0) (c .before .before .before .before .before .before .before .before .before .before .before .before .before .before .before .if1 .left) h (c .before .before .before .before .answer-line .ensures)
+    λ b h. last-answered u _ _ _ _ b _ _ _ _ (c .before .before .note-arg .given .0) (c .before .before .before .before .before .before .before .before .before .before .before .before .before .before .before .if1 .left) h (c .before .before .before .before .answer-line .ensures .1) (c .before .before .before .before .answer-line .ensures .0) (c .note .ensures)
 
 pub take-last-spec : {M : Type 1} → statement M
 take-last-spec =

@@ -65,12 +65,12 @@ returns-2 c =
     let s = c .before .before .before .before .before .before .before .before .before .before .before .before .before .before .before .before .before .before .before .before .before .before .before in
     let t = c .before .before .before .before .before .before .before .before .before .before .before .before .before .before .before .before .before .before .before .next-byte in
     let a = c .before .before .before .before .before .before .before .before .before .before .before .before .before .before .before .before .append in
-    let answered = c .before .before .before .before .before .answer-line .ensures in
+    let answered = c .before .before .before .before .before .answer-line .ensures .1 in
     let u = stateOf (s .args .p .window) (memory (now (s .args .sequences)) (now (s .args .values)) (now (s .args .pages)) (now (s .args .blocks))) in (
       (omega (arith, t .ensures .from-le), omega (arith, t .ensures .le-length, c .before .before .before .before .before .before .before .before .before .before .before .before .before .before .before .if1 .left)),
       (
         λ b h. line-ended u _ _ _ (t .ensures) _ _ _ _ (a .ensures) (a .kept .0) b h (omega (arith, t .ensures .le-length, c .before .before .before .before .before .before .before .before .before .before .before .before .before .before .before .if1 .left))
-            (c .before .before .before .before .before .before .before .before .before .before .before .before .before .before .before .before .before .before .append-arg .given .0 .1) _ _ _ _ _ answered refl refl,
+            (c .before .before .before .before .before .before .before .before .before .before .before .before .before .before .before .before .before .before .append-arg .given .0 .1) _ _ _ _ _ _ answered (c .before .before .before .before .before .answer-line .ensures .0) refl refl (c .note .ensures),
         answered .kept,
       ),
     )

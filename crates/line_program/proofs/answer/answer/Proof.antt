@@ -20,8 +20,10 @@ create-requires c κs = search needs
 returns : tie.Need-returns
 returns c =
     let s = c .before .before .before .before .before .before .before .before .before in
-    let u = stateOf (s .args .w) (memory (now (s .args .sequences)) (now (s .args .values)) (now (s .args .pages)) (now (s .args .blocks))) in
-    answers-as _ _ _ _ _ _ _ (new-line (keptOf u) (s .args .f) (c .before .before .before .before .before .before .before .if1 .taken)) (c .create .ensures)
+    let u = stateOf (s .args .w) (memory (now (s .args .sequences)) (now (s .args .values)) (now (s .args .pages)) (now (s .args .blocks))) in (
+      c .create .ensures .0,
+      answers-as _ _ _ _ _ _ _ (new-line (keptOf u) (s .args .f) (c .before .before .before .before .before .before .before .if1 .taken)) (c .create .ensures .1),
+    )
 
 -- src/answer.rt:194:9
 unknown-requires : tie.Need-unknown-requires
@@ -31,8 +33,10 @@ unknown-requires c κs = search needs
 returns-2 : tie.Need-returns-2
 returns-2 c =
     let s = c .before .before .before .before .before .before .before .before .before .before in
-    let u = stateOf (s .args .w) (memory (now (s .args .sequences)) (now (s .args .values)) (now (s .args .pages)) (now (s .args .blocks))) in
-    answers-as _ _ _ _ _ _ _ (no-window (keptOf u) (s .args .f) (c .before .before .before .before .before .before .before .before .if1 .left) (c .before .before .before .before .before .before .if2 .taken)) (c .unknown .ensures)
+    let u = stateOf (s .args .w) (memory (now (s .args .sequences)) (now (s .args .values)) (now (s .args .pages)) (now (s .args .blocks))) in (
+      c .unknown .ensures .0,
+      answers-as _ _ _ _ _ _ _ (no-window (keptOf u) (s .args .f) (c .before .before .before .before .before .before .before .before .if1 .left) (c .before .before .before .before .before .before .if2 .taken)) (c .unknown .ensures .1),
+    )
 
 -- src/answer.rt:197:9
 list-requires : tie.Need-list-requires
@@ -44,8 +48,10 @@ list-requires c κs =
 returns-3 : tie.Need-returns-3
 returns-3 c =
     let s = c .before .before .before .before .before .before .before .before .before .before .before .before .before .before in
-    let u = stateOf (s .args .w) (memory (now (s .args .sequences)) (now (s .args .values)) (now (s .args .pages)) (now (s .args .blocks))) in
-    answers-as _ _ _ _ _ _ _ (list-line (keptOf u) (s .args .f) (c .before .before .before .before .before .before .before .before .if3 .taken) (omega (arith, c .before .before .before .before .before .before .before .before .before .before .if2 .left))) (c .list .ensures)
+    let u = stateOf (s .args .w) (memory (now (s .args .sequences)) (now (s .args .values)) (now (s .args .pages)) (now (s .args .blocks))) in (
+      c .list .ensures .0,
+      answers-as _ _ _ _ _ _ _ (list-line (keptOf u) (s .args .f) (c .before .before .before .before .before .before .before .before .if3 .taken) (omega (arith, c .before .before .before .before .before .before .before .before .before .before .if2 .left))) (c .list .ensures .1),
+    )
 
 -- src/answer.rt:209:5
 answer-call-requires : tie.Need-answer-call-requires
@@ -57,8 +63,10 @@ answer-call-requires c κs =
 returns-4 : tie.Need-returns-4
 returns-4 c =
     let s = c .before .before .before .before .before .before .before .before .before .before .before .before .before in
-    let u = stateOf (s .args .w) (memory (now (s .args .sequences)) (now (s .args .values)) (now (s .args .pages)) (now (s .args .blocks))) in
-    answers-as _ _ _ _ _ _ _ (call-line (keptOf u) (s .args .f) (c .before .before .before .before .before .before .before .before .before .before .before .if1 .left) (c .before .before .before .before .before .before .before .if3 .left)) (c .answer-call .ensures)
+    let u = stateOf (s .args .w) (memory (now (s .args .sequences)) (now (s .args .values)) (now (s .args .pages)) (now (s .args .blocks))) in (
+      c .answer-call .ensures .0,
+      answers-as _ _ _ _ _ _ _ (call-line (keptOf u) (s .args .f) (c .before .before .before .before .before .before .before .before .before .before .before .if1 .left) (c .before .before .before .before .before .before .before .if3 .left)) (c .answer-call .ensures .1),
+    )
 
 pub answer-spec : {M : Type 1} → statement M
 answer-spec =

@@ -1,4 +1,5 @@
 -- A letter other than n and l, on a window. Assumes nothing.
+use native.Mathlib.Omega.{arith}
 use borrow.Author.Needs.{needs}
 use Rattle.line_program.proofs.AnswerLaws.{made-answers, unmade-kept, unmade-answers}
 use Rattle.line_calls.specs.Calls.{callOf, Made}
@@ -51,9 +52,11 @@ returns c =
     let t = c .before .before .before .before .before .before .before .before .before .before .call in
     let u = stateOf (s .args .w) (memory (now (s .args .sequences)) (now (s .args .values)) (now (s .args .pages)) (now (s .args .blocks))) in
     let m = memory (t .last .1 .0) (t .last .1 .1 .0) (t .last .1 .1 .1 .0) (t .last .1 .1 .1 .1 .0) in
-    let said = subst (λ (x : Called). Made (callOf (saidBy (s .args .f)) (leb 384 (length (now (s .args .returned))))) u (now (s .args .returned)) x m (t .last .1 .1 .1 .1 .1 .0)) (c .before .before .before .before .before .before .before .before .called .given .1) (t .ensures) in
-    made-answers (s .args .at) _ (c .before .before .before .before .put-line-arg .given .0 .1) (s .pre .1 .0) (callOf (saidBy (s .args .f))) (s .args .f .letter) u (now (s .args .returned)) m (t .last .1 .1 .1 .1 .1 .0) (c .before .before .before .before .before .before .before .before .before .before .before .call-arg5 .given .0 .1) _ _
-    _ said (s .pre .0) (s .pre .1 .1) (c .before .before .put-line-arg3 .given .0) (c .put-line .ensures)
+    let said = subst (λ (x : Called). Made (callOf (saidBy (s .args .f)) (leb 384 (length (now (s .args .returned))))) u (now (s .args .returned)) x m (t .last .1 .1 .1 .1 .1 .0)) (c .before .before .before .before .before .before .before .before .called .given .1) (t .ensures) in (
+      omega (arith, c .before .before .before .before .put-line-arg .given .0 .1, s .pre .1 .0),
+      made-answers (s .args .at) _ (c .before .before .before .before .put-line-arg .given .0 .1) (s .pre .1 .0) (callOf (saidBy (s .args .f))) (s .args .f .letter) u (now (s .args .returned)) m (t .last .1 .1 .1 .1 .1 .0) (c .before .before .before .before .before .before .before .before .before .before .before .call-arg5 .given .0 .1) _ _
+          _ said (s .pre .0) (s .pre .1 .1) (c .before .before .put-line-arg3 .given .0) (c .put-line .ensures),
+    )
 
 -- src/answer.rt:132:1
 returns-2 : tie.Need-returns-2
@@ -62,8 +65,10 @@ returns-2 c =
     let t = c .before .before .before .before .before .before .before .before .call in
     let u = stateOf (s .args .w) (memory (now (s .args .sequences)) (now (s .args .values)) (now (s .args .pages)) (now (s .args .blocks))) in
     let m = memory (t .last .1 .0) (t .last .1 .1 .0) (t .last .1 .1 .1 .0) (t .last .1 .1 .1 .1 .0) in
-    let said = subst (λ (x : Called). Made (callOf (saidBy (s .args .f)) (leb 384 (length (now (s .args .returned))))) u (now (s .args .returned)) x m (t .last .1 .1 .1 .1 .1 .0)) (c .before .before .before .before .before .before .enum-told .given .1) (t .ensures) in
-    unmade-answers (callOf (saidBy (s .args .f))) u (now (s .args .returned)) m (t .last .1 .1 .1 .1 .1 .0) said (s .args .f .letter) _ _ _ _ _ (c .before .before .before .before .before .before .before .before .before .call-arg5 .given .0 .1) (c .unknown .ensures)
+    let said = subst (λ (x : Called). Made (callOf (saidBy (s .args .f)) (leb 384 (length (now (s .args .returned))))) u (now (s .args .returned)) x m (t .last .1 .1 .1 .1 .1 .0)) (c .before .before .before .before .before .before .enum-told .given .1) (t .ensures) in (
+      c .unknown .ensures .0,
+      unmade-answers (callOf (saidBy (s .args .f))) u (now (s .args .returned)) m (t .last .1 .1 .1 .1 .1 .0) said (s .args .f .letter) _ _ _ _ _ (c .before .before .before .before .before .before .before .before .before .call-arg5 .given .0 .1) (c .unknown .ensures .1),
+    )
 
 pub answer-call-spec : {M : Type 1} → statement M
 answer-call-spec =

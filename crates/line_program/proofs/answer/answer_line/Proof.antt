@@ -38,16 +38,20 @@ returns : tie.Need-returns
 returns c =
     let s = c .before .before .before .before .before .before .before .before .before .before .before .before .before .before in
     let t = c .before .before .before .before .before .before .before .before .before .before .before .before .parse-line in
-    let u = stateOf (s .args .w) (memory (now (s .args .sequences)) (now (s .args .values)) (now (s .args .pages)) (now (s .args .blocks))) in
-    answers-as _ _ _ _ _ _ _ (ap (saidLine (keptOf u)) (sym (t .ensures) ∙ ap lineAnswer (c .before .before .before .before .before .before .before .before .before .before .parsed .given .1))) (c .answer .ensures)
+    let u = stateOf (s .args .w) (memory (now (s .args .sequences)) (now (s .args .values)) (now (s .args .pages)) (now (s .args .blocks))) in (
+      c .answer .ensures .0,
+      answers-as _ _ _ _ _ _ _ (ap (saidLine (keptOf u)) (sym (t .ensures) ∙ ap lineAnswer (c .before .before .before .before .before .before .before .before .before .before .parsed .given .1))) (c .answer .ensures .1),
+    )
 
 -- src/answer.rt:223:1
 returns-2 : tie.Need-returns-2
 returns-2 c =
     let s = c .before .before .before .before .before .before .before .before .before .before in
     let t = c .before .before .before .before .before .before .before .before .parse-line in
-    let u = stateOf (s .args .w) (memory (now (s .args .sequences)) (now (s .args .values)) (now (s .args .pages)) (now (s .args .blocks))) in
-    answers-as _ _ _ _ _ _ _ (ap (saidLine (keptOf u)) (sym (t .ensures) ∙ ap lineAnswer (c .before .before .before .before .before .before .enum-told .given .1))) (c .unknown .ensures)
+    let u = stateOf (s .args .w) (memory (now (s .args .sequences)) (now (s .args .values)) (now (s .args .pages)) (now (s .args .blocks))) in (
+      c .unknown .ensures .0,
+      answers-as _ _ _ _ _ _ _ (ap (saidLine (keptOf u)) (sym (t .ensures) ∙ ap lineAnswer (c .before .before .before .before .before .before .enum-told .given .1))) (c .unknown .ensures .1),
+    )
 
 pub answer-line-spec : {M : Type 1} → statement M
 answer-line-spec =

@@ -1,4 +1,5 @@
 -- A new window, or the refusal of one. Assumes nothing.
+use native.Mathlib.Omega.{arith}
 use borrow.Author.Needs.{needs}
 use Rattle.call_base.specs.Answers.{stateOf}
 use Rattle.window.specs.Memory.{memory}
@@ -18,8 +19,10 @@ unknown-requires c κs = search needs
 returns : tie.Need-returns
 returns c =
     let s = c .before .before .before .before .before .before .before .before in
-    let u = stateOf (s .args .w) (memory (now (s .args .sequences)) (now (s .args .values)) (now (s .args .pages)) (now (s .args .blocks))) in
-    new-larger (s .args .f .first) (s .args .f .second) (s .args .f .third) u _ _ _ _ _ (c .before .before .before .before .before .before .if1 .taken) (c .unknown .ensures)
+    let u = stateOf (s .args .w) (memory (now (s .args .sequences)) (now (s .args .values)) (now (s .args .pages)) (now (s .args .blocks))) in (
+      c .unknown .ensures .0,
+      new-larger (s .args .f .first) (s .args .f .second) (s .args .f .third) u _ _ _ _ _ (c .before .before .before .before .before .before .if1 .taken) (c .unknown .ensures .1),
+    )
 
 -- src/answer.rt:78:9
 new-requires : tie.Need-new-requires
@@ -47,10 +50,12 @@ returns-2 c =
     let s = c .before .before .before .before .before .before .before .before .before .before .before .before .before in
     let t = c .before .before .before .before .before .before .new in
     let u = stateOf (s .args .w) (memory (now (s .args .sequences)) (now (s .args .values)) (now (s .args .pages)) (now (s .args .blocks))) in
-    let m = memory (t .last .0) (t .last .1 .0) (t .last .1 .1 .0) (t .last .1 .1 .1 .0) in
-    new-made (s .args .at) _ (c .before .before .put-line-arg .given .0 .1) (s .pre .1) (s .args .f .first) (s .args .f .second) (s .args .f .third) u _ _ (now (s .args .returned))
-    (c .before .put-line-arg2 .given .0) (c .before .before .before .before .before .before .before .before .before .before .before .if1 .left) _ m
-    (ap (λ (x : Created). newResult (answerOf x) m) (sym (c .before .before .before .before .made .given .1)) ∙ t .ensures) (c .put-line .ensures)
+    let m = memory (t .last .0) (t .last .1 .0) (t .last .1 .1 .0) (t .last .1 .1 .1 .0) in (
+      omega (arith, c .before .before .put-line-arg .given .0 .1, s .pre .1),
+      new-made (s .args .at) _ (c .before .before .put-line-arg .given .0 .1) (s .pre .1) (s .args .f .first) (s .args .f .second) (s .args .f .third) u _ _ (now (s .args .returned))
+          (c .before .put-line-arg2 .given .0) (c .before .before .before .before .before .before .before .before .before .before .before .if1 .left) _ m
+          (ap (λ (x : Created). newResult (answerOf x) m) (sym (c .before .before .before .before .made .given .1)) ∙ t .ensures) (c .put-line .ensures),
+    )
 
 -- src/answer.rt:60:1
 returns-3 : tie.Need-returns-3
@@ -58,11 +63,13 @@ returns-3 c =
     let s = c .before .before .before .before .before .before .before .before .before .before .before .before .before in
     let t = c .before .before .before .before .before .before .new in
     let u = stateOf (s .args .w) (memory (now (s .args .sequences)) (now (s .args .values)) (now (s .args .pages)) (now (s .args .blocks))) in
-    let m = memory (t .last .0) (t .last .1 .0) (t .last .1 .1 .0) (t .last .1 .1 .1 .0) in
-    new-refused (s .args .at) _ (c .before .before .put-line-arg3 .given .0 .1) (s .pre .1) (s .args .f .first) (s .args .f .second) (s .args .f .third) u _ _ (now (s .args .returned))
-    (c .before .put-line-arg4 .given .0) (c .before .before .before .before .before .before .before .before .before .before .before .if1 .left)
-    (c .before .before .before .before .before .before .before .before .before .before .new-arg .given .0 .1) (c .before .before .before .before .before .before .before .before .before .new-arg2 .given .0 .1) (c .before .before .before .before .before .before .before .before .new-arg3 .given .0 .1) (c .before .before .before .before .before .before .before .new-arg4 .given .0 .1) (s .pre .0) _ m
-    (ap (λ (x : Created). newResult (answerOf x) m) (sym (c .before .before .before .before .made2 .given .1)) ∙ t .ensures) (c .put-line2 .ensures)
+    let m = memory (t .last .0) (t .last .1 .0) (t .last .1 .1 .0) (t .last .1 .1 .1 .0) in (
+      omega (arith, c .before .before .put-line-arg3 .given .0 .1, s .pre .1),
+      new-refused (s .args .at) _ (c .before .before .put-line-arg3 .given .0 .1) (s .pre .1) (s .args .f .first) (s .args .f .second) (s .args .f .third) u _ _ (now (s .args .returned))
+          (c .before .put-line-arg4 .given .0) (c .before .before .before .before .before .before .before .before .before .before .before .if1 .left)
+          (c .before .before .before .before .before .before .before .before .before .before .new-arg .given .0 .1) (c .before .before .before .before .before .before .before .before .before .new-arg2 .given .0 .1) (c .before .before .before .before .before .before .before .before .new-arg3 .given .0 .1) (c .before .before .before .before .before .before .before .new-arg4 .given .0 .1) (s .pre .0) _ m
+          (ap (λ (x : Created). newResult (answerOf x) m) (sym (c .before .before .before .before .made2 .given .1)) ∙ t .ensures) (c .put-line2 .ensures),
+    )
 
 pub create-spec : {M : Type 1} → statement M
 create-spec =
