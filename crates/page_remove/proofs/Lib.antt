@@ -1,6 +1,6 @@
 -- Laws for callers: the set bit of a number (NthLaws), what stands at each position (StandLaws), removal and exchange (RemoveLaws),
 -- draining (DrainLaws), the return list (WroteLaws). For the proofs of this crate: cells packed (PackLaws), a page settled
--- (SettleLaws), the loop that drains (DrainLoopLaws).
+-- (SettleLaws), the loop that drains (DrainLoopLaws), a dense page drained by position (DenseLaws).
 pub mod NthLaws
 pub mod StandLaws
 pub mod RemoveLaws
@@ -9,3 +9,4 @@ pub mod WroteLaws
 pub mod PackLaws
 pub mod SettleLaws
 pub mod DrainLoopLaws
+pub mod DenseLaws

@@ -32,3 +32,11 @@ pub record Drains (n : ℕ) (w : PageWords) (ss vs : List ℕ) (slots at limit :
   pub sound : Placed n (page w ss vs) → r .sound ≡ true
   pub gives : Placed n (page w ss vs)
       → pageDrained (page (r .words) ss vs) (stretch at (r .count) l′) ≡ drainPage 64 0 (isSet slots) limit (page w ss vs)
+
+-- the words of a dense page with these positions occupied: "dense has filled = occupied"
+abbrev pub denseWords : ℕ → PageWords
+denseWords occupied = record { kind = 2; occupied = occupied; filled = occupied }
+
+-- a drain that reads no sequences: of a dense page it gives the same for any n and whatever sequences stand in the cells
+abbrev pub DrainsDense : ℕ → List ℕ → ℕ → ℕ → ℕ → List ℕ → Drained → List ℕ → Type 0
+DrainsDense occupied vs slots at limit l r l′ = (n : ℕ) (ss : List ℕ) → Drains n (denseWords occupied) ss vs slots at limit l r l′

@@ -6,7 +6,8 @@ use window::memory::PAGE_SLOTS;
 ghost use Prim.Native.Nat.{_+_, _<_, _≤_};
 ghost use mathlib.Core.Path.{_≡_};
 ghost use lib.ListN.{length};
-ghost use Rattle.page_remove.specs.Contracts.{Drains};
+ghost use Rattle.words.specs.Word.{lowest as lowestOf, clearBit};
+ghost use Rattle.page_remove.specs.Contracts.{Drains, DrainsDense};
 
 // The words of a page whose lowest values were taken out, how many they were, and whether each occupied position met had a cell.
 pub struct Drained {
@@ -15,8 +16,50 @@ pub struct Drained {
     pub sound: bool,
 }
 
-// The values at the positions named by `slots`, by rising position, at most `limit`, into `returned` from `at` on.
-pub fn drain(
+// w without its lowest set bit.
+fn clear_lowest(w: u64) -> u64
+    requires { ⌜ 0 < w ⌝ }
+    ensures { λ r. ⌜ r ≡ clearBit w (lowestOf w 0) ⌝ }
+{
+    w & (w - 1)
+}
+
+// The drain of a dense page, whose cells are its positions: nothing is searched for, and its words are made once, at the end.
+fn drain_dense(
+    values: &[u32],
+    returned: &mut [u32],
+    occupied: u64,
+    slots: u64,
+    at: usize,
+    limit: usize,
+) -> Drained
+    requires { ⌜ (length (now values) ≡ 64) × (at + limit ≤ length (now returned)) ⌝ }
+    ensures { λ r. ⌜ DrainsDense occupied (now (values .entry)) slots at limit (now (returned .entry)) r (now (returned .exit)) ⌝ }
+{
+    let mut selected = occupied & slots;
+    let mut count: usize = 0;
+    while selected != 0 {
+        if limit <= count {
+            break;
+        }
+        returned[at + count] = values[words::lowest(selected, 0)];
+        selected = clear_lowest(selected);
+        count += 1;
+    }
+    let left = (occupied & !slots) | selected;
+    Drained {
+        words: PageWords {
+            kind: 2,
+            occupied: left,
+            filled: left,
+        },
+        count,
+        sound: true,
+    }
+}
+
+// The drain of any page: the cell of each value is searched for.
+fn drain_searched(
     sequences: &[u32],
     values: &[u32],
     returned: &mut [u32],
@@ -53,4 +96,29 @@ pub fn drain(
         count,
         sound,
     }
+}
+
+// The values at the positions named by `slots`, by rising position, at most `limit`, into `returned` from `at` on.
+pub fn drain(
+    sequences: &[u32],
+    values: &[u32],
+    returned: &mut [u32],
+    w: PageWords,
+    n: usize,
+    slots: u64,
+    at: usize,
+    limit: usize,
+) -> Drained
+    requires { ⌜ (length (now sequences) ≡ 64) × (length (now values) ≡ 64) × (n < 64) × (at + limit ≤ length (now returned)) ⌝ }
+    ensures { λ r. ⌜ Drains n w (now (sequences .entry)) (now (values .entry)) slots at limit (now (returned .entry)) r (now (returned .exit)) ⌝ }
+{
+    let kind = w.kind;
+    let occupied = w.occupied;
+    let filled = w.filled;
+    if kind == 2 {
+        if filled == occupied {
+            return drain_dense(values, returned, occupied, slots, at, limit);
+        }
+    }
+    drain_searched(sequences, values, returned, w, n, slots, at, limit)
 }

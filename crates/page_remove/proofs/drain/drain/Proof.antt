@@ -1,129 +1,46 @@
-use Prim.Native.Nat.{_-_, _<_}
-use native.Mathlib.Omega.{arith}
-use lib.Bits.{and-le-r}
-use Rattle.words.proofs.LowestLaws.{lowest-some}
-use Rattle.page_remove.proofs.DrainLoopLaws.{Draining, draining-begins, draining-turn, draining-ends, draining-empty, draining-unsound}
+-- On a dense page with filled = occupied, what the drain by position gives for these sequences; else the search's. Assumes nothing.
 use borrow.Author.Needs.{needs}
+use Rattle.page_remove.proofs.DenseLaws.{dense-drains}
 use Rattle.page_remove.proofs.drain.drain.Statement.{statement}
 use Rattle.page_remove.proofs.drain.drain.Tie as tie
 use Rattle.page_remove.proofs.drain.drain.Reads as reads
 use Rattle.page_remove.proofs.drain.drain.Lts as lts
-use Rattle.page_remove.proofs.take_cell.Reads as take-cell-reads
-use Rattle.page_base.proofs.find.slot_at.Reads as slot-at-reads
-use Rattle.words.proofs.lowest.Reads as lowest-reads
+use Rattle.page_remove.proofs.drain.drain_dense.Reads as drain-dense-reads
+use Rattle.page_remove.proofs.drain.drain_searched.Reads as drain-searched-reads
 
-abbrev Inv-loop : tie.InvT-loop
-Inv-loop sequences values returned₀ n slots at limit left₀ count₀ sound₀ returned left count sound =
-    Draining n left₀ sequences values slots at limit returned₀ returned left count sound
+-- src/drain.rt:120:13
+drain-dense-requires : tie.Need-drain-dense-requires
+drain-dense-requires c κs = search needs
 
-abbrev μ-loop : tie.MeasureT-loop
-μ-loop sequences values returned₀ n slots at limit left₀ count₀ sound₀ returned left count sound =
-    limit - count
-
--- src/drain.rt:34:5
-loop-holds : tie.Need-loop-holds Inv-loop μ-loop
-loop-holds c = draining-begins _ _ _ _ _ _ _ _
-
--- src/drain.rt:40:13
-lowest-requires : tie.Need-lowest-requires Inv-loop μ-loop
-lowest-requires c κs = search needs
-
--- the position that is drained
-inside : (c : tie.After-lowest Inv-loop μ-loop) → c .lowest .result < 64
-inside c =
-    let a = c .before .before .before .before .before .before .before .args in
-    rw (c .lowest .ensures) (lowest-some _ (omega (arith, and-le-r (c .before .before .before .loop .left .occupied) (a .slots))) (c .before .if1 .left))
-
--- src/drain.rt:41:13
-slot-at-requires : tie.Need-slot-at-requires Inv-loop μ-loop
-slot-at-requires c κs = (search needs, search needs, inside c)
-
--- src/drain.rt:46:32
-mul-returned : tie.Need-mul-returned Inv-loop μ-loop
-mul-returned c = search needs
-
--- src/drain.rt:46:32
-shared-slice-read-returned : tie.Need-shared-slice-read-returned Inv-loop μ-loop
-shared-slice-read-returned c = search needs
-
--- src/drain.rt:46:18
-add-returned : tie.Need-add-returned Inv-loop μ-loop
-add-returned c = search needs
-
--- src/drain.rt:46:9
-mul-returned-2 : tie.Need-mul-returned-2 Inv-loop μ-loop
-mul-returned-2 c = search needs
-
--- src/drain.rt:46:9
-slice-write-returned : tie.Need-slice-write-returned Inv-loop μ-loop
-slice-write-returned c = search needs
-
--- src/drain.rt:47:9
-take-cell-requires : tie.Need-take-cell-requires Inv-loop μ-loop
-take-cell-requires c κs = (inside (c .before .before .before), search needs)
-
--- src/drain.rt:48:9
-add-count : tie.Need-add-count Inv-loop μ-loop
-add-count c = search needs
-
--- src/drain.rt:34:5
-loop-less : tie.Need-loop-less Inv-loop μ-loop
-loop-less c = search needs
-
--- src/drain.rt:34:5
-loop-again : tie.Need-loop-again Inv-loop μ-loop
-loop-again c =
-    rw (c .take-cell .ensures)
-    (draining-turn _ _ _ _ _ _ _ _ _ _ _ _ (c .before .before .before .before .before .before .before .loop .inv) (omega arith) (omega arith) (c .before .before .before .before .before .before .loop-test .taken) (c .before .before .before .before .before .if1 .left) _ _
-    (c .before .before .before .before .lowest .ensures) (omega arith) (c .before .before .before .slot-at .ensures))
-
--- src/drain.rt:18:1
-same-length : tie.Need-same-length Inv-loop μ-loop
+-- src/drain.rt:120:13
+same-length : tie.Need-same-length
 same-length c = search needs
 
--- src/drain.rt:18:1
-returns : tie.Need-returns Inv-loop μ-loop
-returns c = draining-ends _ _ _ _ _ _ _ _ _ _ _ _ (c .before .loop .inv) (c .loop-test .left)
+-- src/drain.rt:120:13
+returns : tie.Need-returns
+returns c =
+    let t = c .before .before .before .before in
+    dense-drains _ _ _ _ _ _ _ _ _ _ (t .before .if1 .taken) (t .if2 .taken) (c .before .before .drain-dense .ensures)
 
--- src/drain.rt:18:1
-same-length-2 : tie.Need-same-length-2 Inv-loop μ-loop
+-- src/drain.rt:123:5
+drain-searched-requires : tie.Need-drain-searched-requires
+drain-searched-requires c κs = search needs
+
+-- src/drain.rt:102:1
+same-length-2 : tie.Need-same-length-2
 same-length-2 c = search needs
 
--- src/drain.rt:18:1
-returns-2 : tie.Need-returns-2 Inv-loop μ-loop
-returns-2 c = draining-empty _ _ _ _ _ _ _ _ _ _ _ _ (c .before .before .loop .inv) (c .if1 .taken)
-
--- src/drain.rt:18:1
-same-length-3 : tie.Need-same-length-3 Inv-loop μ-loop
-same-length-3 c = search needs
-
--- src/drain.rt:18:1
-returns-3 : tie.Need-returns-3 Inv-loop μ-loop
-returns-3 c =
-    draining-unsound _ _ _ _ _ _ _ _ _ _ _ _ (c .before .before .before .before .before .loop .inv) (omega arith) (c .before .before .before .if1 .left) _ _ (c .before .before .lowest .ensures) (c .if2 .taken)
-    (c .before .slot-at .ensures)
+-- src/drain.rt:102:1
+returns-2 : tie.Need-returns-2
+returns-2 c = search needs
 
 pub drain-spec : {M : Type 1} → statement M
 drain-spec =
     tie.close
     (tie.spec
-    Inv-loop
-    μ-loop
-    loop-holds
-    lowest-requires
-    slot-at-requires
-    mul-returned
-    shared-slice-read-returned
-    add-returned
-    mul-returned-2
-    slice-write-returned
-    take-cell-requires
-    add-count
-    loop-less
-    loop-again
+    drain-dense-requires
     same-length
     returns
+    drain-searched-requires
     same-length-2
-    returns-2
-    same-length-3
-    returns-3)
+    returns-2)
