@@ -1,8 +1,9 @@
-// release_retired: retired values handed back, at a cost of one unit for each page inspected and each value.
+// release_retired: retired values handed back, at a cost of one unit for each page inspected and each value; at once if none is held.
 use crate::finish;
 use call_base::admits::Arguments;
 use call_base::admits::admits;
 use call_base::refuse;
+use call_base::reply;
 use window::AdaptiveReceiverPacketWindow;
 use window::answers::Answer;
 use window::answers::Step;
@@ -32,6 +33,11 @@ pub fn release_retired(
     );
     if let Verdict::Refuse(why) = verdict {
         return refuse(w, why);
+    }
+    if w.retired_held == 0 {
+        if w.retired_blocks == 0 {
+            return reply(w, Answer::Released(0, 0));
+        }
     }
     let limit = budget as usize;
     let visited = release_visit::release_retired(

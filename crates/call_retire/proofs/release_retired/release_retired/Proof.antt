@@ -1,4 +1,5 @@
--- Refused as admits says, or else what a visit released and its units (release-fills). Assumes nothing.
+-- Refused as admits says, or else nothing where nothing is held (none-fills), or what a visit released and its units
+-- (release-fills). Assumes nothing.
 use mathlib.Core.Path.{refl, sym, subst}
 use Prim.Native.Nat.{_≤_}
 use native.Mathlib.Omega.{arith}
@@ -18,7 +19,7 @@ use Rattle.call_base.specs.Contracts.{Fills}
 use Rattle.call_base.proofs.MeetsLaws.{refusal-meets, admitted-fits, admitted-places, admitted-arguments, filled-meets}
 use Rattle.call_base.proofs.RangeLaws.{number-taken}
 use Rattle.call_retire.proofs.DoesLaws.{release-does}
-use Rattle.call_retire.proofs.ReleaseLaws.{release-fills}
+use Rattle.call_retire.proofs.ReleaseLaws.{none-fills, release-fills}
 use Rattle.call_retire.proofs.release_retired.release_retired.Statement.{statement}
 use Rattle.call_retire.proofs.release_retired.release_retired.Tie as tie
 
@@ -54,9 +55,24 @@ long m = let s = m .before .before .before .before .before .before .before .args
 few : (m : tie.At-match-keys2) → m .before .before .before .before .before .before .before .args .budget ≤ 256
 few m = let s = m .before .before .before .before .before .before .before .args in number-taken (knownBy (s .w)) (s .budget) (admitted-arguments (release-retired (s .budget) (leb 384 (length (now (s .returned))))) (found (m .before)) (length (now (s .returned))) refl (m .before .admits .result) (m .before .admits .ensures) (m .match .keys2))
 
+-- nothing is held
+reply-requires : tie.Need-reply-requires
+reply-requires c κs = search needs
+
+returns-2 : tie.Need-returns-2
+returns-2 c =
+    let m : tie.At-match-keys2 = c .before .before .before .before .before .before in
+    let s = m .before .before .before .before .before .before .before .args in
+    filled-meets (release-retired (s .budget) (leb 384 (length (now (s .returned))))) (found (m .before)) (length (now (s .returned))) refl (m .before .admits .result) (m .before .admits .ensures) (m .match .keys2) (now (s .returned)) _ refl refl
+    _ (release-does (s .w) (memory (now (s .sequences)) (now (s .values)) (now (s .pages)) (now (s .blocks))) (s .budget) (leb 384 (length (now (s .returned)))))
+    (subst (λ (y : Step). Fills (λ (w : Window). releaseStep w (s .budget)) (found (m .before)) (now (s .returned))
+    (leftOf y (memory (now (s .sequences)) (now (s .values)) (now (s .pages)) (now (s .blocks))) (now (s .returned)))) (sym (c .reply .ensures))
+    (none-fills (s .w) (memory (now (s .sequences)) (now (s .values)) (now (s .pages)) (now (s .blocks))) (now (s .returned)) (s .budget) (c .before .before .before .if1 .taken)))
+
+-- a visit
 release-retired-requires : tie.Need-release-retired-requires
 release-retired-requires c κs =
-    let m : tie.At-match-keys2 = c .before .before .before .before in
+    let m : tie.At-match-keys2 = c .before .before .before .before .before .before in
     let f = fit m in (
       (f .within .size-high, omega (arith, f .within .n-high), omega (arith, few m), omega (arith, long m, few m)),
       (f .long .sequences-long, f .long .values-long, f .long .pages-long, f .long .blocks-long),
@@ -66,13 +82,13 @@ release-retired-requires c κs =
 paid : (v : tie.After-release-retired) → (v .release-retired .result .units ≤ 256) × (v .release-retired .result .count ≤ 256)
 paid v =
     let p = v .release-retired .ensures in
-    let most = few (v .before .before .before .before .before) in
+    let most = few (v .before .before .before .before .before .before .before) in
     (omega (arith, p .paid, most), omega (arith, p .few, p .paid, most))
 
-cast-count : tie.Need-cast-t26
+cast-count : tie.Need-cast-t29
 cast-count c = omega (arith, paid (c .before .before .before .before .before .before .before .before) .1)
 
-cast-units : tie.Need-cast-t27
+cast-units : tie.Need-cast-t30
 cast-units c = omega (arith, paid (c .before .before .before .before .before .before .before .before .before) .0)
 
 finish-requires : tie.Need-finish-requires
@@ -87,10 +103,10 @@ same-length-2 c = search needs
 same-length-3 : tie.Need-same-length-3
 same-length-3 c = search needs
 
-returns-2 : tie.Need-returns-2
-returns-2 c =
+returns-3 : tie.Need-returns-3
+returns-3 c =
     let v : tie.After-release-retired = c .before .before .before .before .before .before .before .before .before .before in
-    let m : tie.At-match-keys2 = v .before .before .before .before .before in
+    let m : tie.At-match-keys2 = v .before .before .before .before .before .before .before in
     let s = m .before .before .before .before .before .before .before .args in
     let t = v .release-retired in
     filled-meets (release-retired (s .budget) (leb 384 (length (now (s .returned))))) (found (m .before)) (length (now (s .returned))) refl (m .before .admits .result) (m .before .admits .ensures) (m .match .keys2) (now (s .returned)) _ refl refl
@@ -108,6 +124,8 @@ release-retired-spec =
     refuse-requires
     returns
     enum-told
+    reply-requires
+    returns-2
     release-retired-requires
     cast-count
     cast-units
@@ -115,4 +133,4 @@ release-retired-spec =
     same-length
     same-length-2
     same-length-3
-    returns-2)
+    returns-3)
