@@ -9,7 +9,7 @@ use Rattle.window.specs.declared.answers.Answer.the-variants.{Released}
 use Rattle.window.specs.Memory.{Memory, memory}
 use Rattle.model.specs.Calls.{released}
 use Rattle.model.specs.Window.{Window, decode}
-use Rattle.model.specs.Steps.{dropBlockMarks, Release, releaseOf, release, effect, releaseStep}
+use Rattle.model.specs.Steps.{Release, releaseOf, effect, releaseStep}
 use Rattle.model.specs.Sound.{Sound}
 use Rattle.page_remove.specs.Contracts.{stretch}
 use Rattle.page_remove.proofs.WroteLaws.{stretch-length}

@@ -1,4 +1,5 @@
-// release_retired: retired values handed back, at a cost of one unit for each page inspected and each value; at once if none is held.
+// release_retired: retired values handed back, at a cost of one unit for each page inspected and each value. With none held it answers
+// at once.
 use crate::finish;
 use call_base::admits::Arguments;
 use call_base::admits::admits;
