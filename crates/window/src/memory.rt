@@ -1,7 +1,7 @@
 // How much memory a window_size names, where a sequence stands in it, and words written.
 use crate::AdaptiveReceiverPacketWindow;
 ghost use mathlib.Core.Path.{_≡_};
-ghost use Prim.Native.Nat.{_≤_};
+ghost use Prim.Native.Nat.{_-_, _≤_};
 ghost use lib.ListN.{length};
 ghost use Rattle.window.specs.Memory.{capacity as capacityOf, pageCount, blockCount, position as positionOf, zeroed};
 
@@ -13,16 +13,31 @@ pub const PAGE_WORDS: usize = 3;
 
 pub const BLOCK_WORDS: usize = 3;
 
+// `window_size` less one; 0 of 0, which every call refuses.
+fn one_less(window_size: u32) -> u32
+    ensures { λ r. ⌜ r ≡ «window_size» - 1 ⌝ }
+{
+    if window_size == 0 {
+        return 0;
+    }
+    window_size - 1
+}
+
+// The capacity less one: the bits of a sequence that are its position. They are those up to the highest of `window_size` less one,
+// at least six.
+pub fn mask(window_size: u32) -> usize
+    requires { ⌜ «window_size» ≤ 65536 ⌝ }
+    ensures { λ r. ⌜ r ≡ capacityOf «window_size» - 1 ⌝ }
+{
+    (u32::MAX >> u32::leading_zeros(one_less(window_size) | 63)) as usize
+}
+
 // `window_size`, at least 64, raised to a power of two.
 pub fn capacity(window_size: u32) -> usize
     requires { ⌜ «window_size» ≤ 65536 ⌝ }
     ensures { λ r. ⌜ r ≡ capacityOf «window_size» ⌝ }
 {
-    if window_size <= 64 {
-        return 64;
-    }
-    let bits = (32 - u32::leading_zeros(window_size - 1)) as usize;
-    1 << bits
+    mask(window_size) + 1
 }
 
 // 64 positions make a page.
@@ -46,7 +61,7 @@ pub fn position(window_size: u32, sequence: u32) -> usize
     requires { ⌜ «window_size» ≤ 65536 ⌝ }
     ensures { λ r. ⌜ r ≡ positionOf «window_size» sequence ⌝ }
 {
-    sequence as usize & (capacity(window_size) - 1)
+    sequence as usize & mask(window_size)
 }
 
 // The first `n` words become 0; the others stay.
