@@ -1,6 +1,7 @@
 -- Laws for callers: the set bit of a number (NthLaws), what stands at each position (StandLaws), removal and exchange (RemoveLaws),
 -- draining (DrainLaws), the return list (WroteLaws). For the proofs of this crate: cells packed (PackLaws), a page settled
--- (SettleLaws), the loop that drains (DrainLoopLaws), a dense page drained by position (DenseLaws).
+-- (SettleLaws), the loop that drains (DrainLoopLaws), a dense page drained by position (DenseLaws), positions
+-- in a row together (RunLaws).
 pub mod NthLaws
 pub mod StandLaws
 pub mod RemoveLaws
@@ -10,3 +11,4 @@ pub mod PackLaws
 pub mod SettleLaws
 pub mod DrainLoopLaws
 pub mod DenseLaws
+pub mod RunLaws

@@ -3,9 +3,9 @@
 use mathlib.Core.Path.{_≡_}
 use mathlib.Core.Bool.{true}
 use mathlib.Core.List.{List}
-use Prim.Native.Nat.{ℕ, _+_, _≤_}
+use Prim.Native.Nat.{ℕ, _+_, _-_, _^_, _≤_, min}
 use lib.ListN.{length, take, drop}
-use Rattle.words.specs.Word.{isSet}
+use Rattle.words.specs.Word.{isSet, lowest}
 use Rattle.model.specs.Pages.{drainPage, pageDrained}
 use Rattle.page_base.specs.declared.PageWords.{PageWords}
 use Rattle.page_base.specs.Page.{page, Placed}
@@ -36,6 +36,10 @@ pub record Drains (n : ℕ) (w : PageWords) (ss vs : List ℕ) (slots at limit :
 -- the words of a dense page with these positions occupied: "dense has filled = occupied"
 abbrev pub denseWords : ℕ → PageWords
 denseWords occupied = record { kind = 2; occupied = occupied; filled = occupied }
+
+-- how many positions in a row from `from` on are selected, at most `most`
+abbrev pub runLength : ℕ → ℕ → ℕ → ℕ
+runLength selected from most = min (lowest (2 ^ 64 - 1 - selected) from - from) most
 
 -- a drain that reads no sequences: of a dense page it gives the same for any n and whatever sequences stand in the cells
 abbrev pub DrainsDense : ℕ → List ℕ → ℕ → ℕ → ℕ → List ℕ → Drained → List ℕ → Type 0

@@ -5,9 +5,9 @@ use page_base::find::slot_at;
 use window::memory::PAGE_SLOTS;
 ghost use Prim.Native.Nat.{_+_, _<_, _≤_};
 ghost use mathlib.Core.Path.{_≡_};
-ghost use lib.ListN.{length};
-ghost use Rattle.words.specs.Word.{lowest as lowestOf, clearBit};
-ghost use Rattle.page_remove.specs.Contracts.{Drains, DrainsDense};
+ghost use lib.ListN.{length, drop};
+ghost use lib.Seq.{paste};
+ghost use Rattle.page_remove.specs.Contracts.{Drains, DrainsDense, runLength};
 
 // The words of a page whose lowest values were taken out, how many they were, and whether each occupied position met had a cell.
 pub struct Drained {
@@ -16,15 +16,32 @@ pub struct Drained {
     pub sound: bool,
 }
 
-// w without its lowest set bit.
-fn clear_lowest(w: u64) -> u64
-    requires { ⌜ 0 < w ⌝ }
-    ensures { λ r. ⌜ r ≡ clearBit w (lowestOf w 0) ⌝ }
+// How many positions in a row from `from` on are selected, at most `most`.
+fn run_length(selected: u64, from: usize, most: usize) -> usize
+    requires { ⌜ from < 64 ⌝ }
+    ensures { λ r. ⌜ r ≡ runLength selected from most ⌝ }
 {
-    w & (w - 1)
+    let n = words::lowest(!selected, from) - from;
+    if most < n {
+        return most;
+    }
+    n
 }
 
-// The drain of a dense page, whose cells are its positions: nothing is searched for, and its words are made once, at the end.
+// The values of `n` cells in a row from `from` on, into `returned` from `at` on.
+fn copy_values(values: &[u32], returned: &mut [u32], from: usize, at: usize, n: usize)
+    requires { ⌜ (from + n ≤ length (now values)) × (at + n ≤ length (now returned)) ⌝ }
+    ensures { λ _. ⌜ now (returned .exit) ≡ paste (now (returned .entry)) at (drop from (now (values .entry))) n ⌝ }
+{
+    let mut i: usize = 0;
+    while i < n {
+        returned[at + i] = values[from + i];
+        i += 1;
+    }
+}
+
+// The drain of a dense page, whose cells are its positions: nothing is searched for, the values of positions in a row are copied
+// together, and the page's words are made once, at the end.
 fn drain_dense(
     values: &[u32],
     returned: &mut [u32],
@@ -42,9 +59,11 @@ fn drain_dense(
         if limit <= count {
             break;
         }
-        returned[at + count] = values[words::lowest(selected, 0)];
-        selected = clear_lowest(selected);
-        count += 1;
+        let from = words::lowest(selected, 0);
+        let n = run_length(selected, from, limit - count);
+        copy_values(values, returned, from, at + count, n);
+        selected = selected & !words::span(from, from + n);
+        count += n;
     }
     let left = (occupied & !slots) | selected;
     Drained {
