@@ -1,5 +1,6 @@
 -- release_retired, over plain variables. Assumes nothing.
 use mathlib.Core.Path.{_≡_, refl, sym, ap, _∙_}
+use mathlib.Core.Bool.{true}
 use mathlib.Core.List.{List, []}
 use Prim.Native.Nat.{ℕ, _≤_}
 use native.Mathlib.Omega.{arith}
@@ -9,7 +10,7 @@ use Rattle.window.specs.declared.answers.Answer.the-variants.{Released}
 use Rattle.window.specs.Memory.{Memory, memory}
 use Rattle.model.specs.Calls.{released}
 use Rattle.model.specs.Window.{Window, decode}
-use Rattle.model.specs.Steps.{Release, releaseOf, effect, releaseStep}
+use Rattle.model.specs.Steps.{Release, releaseOf, effect, release, releaseStep}
 use Rattle.model.specs.Sound.{Sound}
 use Rattle.page_remove.specs.Contracts.{stretch}
 use Rattle.page_remove.proofs.WroteLaws.{stretch-length}
@@ -20,6 +21,7 @@ use Rattle.call_base.specs.Answers.{numberOf, replied, stateOf, leftOf}
 use Rattle.call_base.specs.Contracts.{Fills}
 use Rattle.release_visit.specs.declared.Visited.{Visited}
 use Rattle.release_visit.specs.Contracts.{Releases}
+use Rattle.release_visit.proofs.VisitLaws.{within-none}
 use Rattle.call_retire.specs.Finish.{finished}
 use Rattle.call_retire.proofs.FinishLaws.{words-past, words-lengths, finished-fills}
 
@@ -47,11 +49,29 @@ module _ (h : AdaptiveReceiverPacketWindow) (ss vs pages blocks l : List ℕ) (b
 -- ---- nothing held
 
 -- a sound window that holds no retired value: nothing is released, and it is as it was
+release-none : (w : Window) (budget : ℕ) → Sound w → w .header .«retired_held» ≡ 0 → release budget w ≡ releaseOf w [] 0
+release-none w budget ok none = units-none w budget budget (none-next w ok none) ∙ ap (λ (v : Window). releaseOf v [] 0) (drop-same w ok)
+
 pub none-released : (w : Window) (budget : ℕ) → Sound w → w .header .«retired_held» ≡ 0 → releaseStep w budget ≡ effect w (released 0 0) []
 unfolding releaseStep
-none-released w budget ok none =
-    ap (λ (x : Release). effect (x .after) (released (length (x .out)) (x .units)) (x .out))
-    (units-none w budget budget (none-next w ok none) ∙ ap (λ (v : Window). releaseOf v [] 0) (drop-same w ok))
+none-released w budget ok none = ap (λ (x : Release). effect (x .after) (released (length (x .out)) (x .units)) (x .out)) (release-none w budget ok none)
+
+-- what a visit gives there
+abbrev pub noneVisited : AdaptiveReceiverPacketWindow → Visited
+noneVisited h = record { window = h; count = 0; units = 0; sound = true }
+
+pub none-visits : (h : AdaptiveReceiverPacketWindow) (ss vs pages blocks l : List ℕ) (at budget : ℕ) → h .«retired_held» ≡ 0
+    → Releases h ss vs pages blocks l at budget (noneVisited h) pages blocks l
+unfolding decode
+none-visits h ss vs pages blocks l at budget none = record {
+  within = within-none (h .«window_size») pages blocks;
+  wrote = wrote-none at l;
+  few = omega arith;
+  paid = omega arith;
+  limits = refl;
+  sound = λ ok. refl;
+  gives = λ ok. sym (release-none (decode h (memory ss vs pages blocks)) budget ok none);
+}
 
 -- so the answer at once is the step's, and on any state nothing is written
 module _ (h : AdaptiveReceiverPacketWindow) (m : Memory) (l : List ℕ) (budget : ℕ) (none : h .«retired_held» ≡ 0) where

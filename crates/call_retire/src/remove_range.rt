@@ -64,8 +64,8 @@ fn retire(
     }
 }
 
-// The live values at `count` positions in a row from `start`: retired, and a release visit with its whole budget. The answer is how
-// many they were.
+// The live values at `count` positions in a row from `start`: retired, and a release visit with its whole budget, which finds nothing
+// where none is held retired. The answer is how many they were.
 fn remove_positions(
     w: AdaptiveReceiverPacketWindow,
     sequences: &mut [u32],
@@ -84,6 +84,9 @@ fn remove_positions(
     let left = retired.window;
     let at = retired.count;
     let removed = std::num::wrapping_sub_u32(w.len, left.len);
+    if left.retired_held == 0 {
+        return finish(left, Answer::Found(removed), at, retired.sound);
+    }
     let visited = release_visit::release_retired(
         left,
         sequences,

@@ -1,7 +1,10 @@
 // A range of positions retired, wrapping at the capacity: first the stretch up to the capacity, then that from 0.
 use crate::Retired;
+use crate::span::retire_across;
+use crate::span::retire_inside;
 use crate::span::retire_span;
 use window::AdaptiveReceiverPacketWindow;
+use window::memory::PAGE_SLOTS;
 use window::memory::capacity;
 ghost use Prim.Native.Nat.{_+_, _≤_, _<_};
 ghost use lib.ListN.{length};
@@ -50,7 +53,8 @@ fn retire_round(
     }
 }
 
-// The live values at `count` positions in a row from `start`. What is put into the return list stands there from 0 on.
+// The live values at `count` positions in a row from `start`. What is put into the return list stands there from 0 on. A range that
+// does not wrap is one stretch; its two forms are named here, so that the most frequent range, inside one page, goes straight there.
 pub fn retire_range(
     w: AdaptiveReceiverPacketWindow,
     sequences: &mut [u32],
@@ -68,7 +72,10 @@ pub fn retire_range(
     let end = capacity(w.window_size);
     let to = start + count;
     if to <= end {
-        return retire_span(w, sequences, values, pages, blocks, returned, 0, start, to);
+        if start / PAGE_SLOTS == (to - 1) / PAGE_SLOTS {
+            return retire_inside(w, sequences, values, pages, blocks, returned, 0, start, to);
+        }
+        return retire_across(w, sequences, values, pages, blocks, returned, 0, start, to);
     }
     retire_round(
         w,

@@ -4,7 +4,8 @@ use crate::slots::remove_slots;
 use block_retire::run::retire_pages;
 use window::AdaptiveReceiverPacketWindow;
 use window::memory::PAGE_SLOTS;
-ghost use Prim.Native.Nat.{_+_, _*_, _/_, _≤_, _<_};
+ghost use mathlib.Core.Path.{_≡_};
+ghost use Prim.Native.Nat.{_+_, _-_, _*_, _/_, _≤_, _<_};
 ghost use lib.ListN.{length};
 ghost use Rattle.window.specs.Memory.{capacity};
 ghost use Rattle.window.specs.Lent.{foundIn, leftIn};
@@ -117,8 +118,38 @@ fn retire_ends(
     }
 }
 
+// A stretch inside one page.
+pub fn retire_inside(
+    w: AdaptiveReceiverPacketWindow,
+    sequences: &mut [u32],
+    values: &mut [u32],
+    pages: &mut [u64],
+    blocks: &mut [u64],
+    returned: &mut [u32],
+    at: usize,
+    start: usize,
+    end: usize,
+) -> Retired
+    requires { ⌜ Fits w (length (now sequences)) (length (now values)) (length (now pages)) (length (now blocks)) ⌝ }
+    requires { ⌜ (start < end) × (start / 64 ≡ (end - 1) / 64) × (end ≤ capacity (w .«window_size»)) × (at + spanMost start end ≤ length (now returned)) ⌝ }
+    ensures { λ r. ⌜ Performs (λ v. retireStretch v start end) (spanMost start end) w (foundIn sequences values pages blocks) at (now (returned .entry)) r (leftIn sequences values pages blocks) (now (returned .exit)) ⌝ }
+{
+    let slots = words::span(start % PAGE_SLOTS, (end - 1) % PAGE_SLOTS + 1);
+    remove_slots(
+        w,
+        sequences,
+        values,
+        pages,
+        blocks,
+        returned,
+        at,
+        start / PAGE_SLOTS,
+        slots,
+    )
+}
+
 // A stretch that reaches over several pages.
-fn retire_across(
+pub fn retire_across(
     w: AdaptiveReceiverPacketWindow,
     sequences: &mut [u32],
     values: &mut [u32],
@@ -175,10 +206,8 @@ pub fn retire_span(
     requires { ⌜ (start < end) × (end ≤ capacity (w .«window_size»)) × (at + spanMost start end ≤ length (now returned)) ⌝ }
     ensures { λ r. ⌜ Performs (λ v. retireStretch v start end) (spanMost start end) w (foundIn sequences values pages blocks) at (now (returned .entry)) r (leftIn sequences values pages blocks) (now (returned .exit)) ⌝ }
 {
-    let page = start / PAGE_SLOTS;
-    if page == (end - 1) / PAGE_SLOTS {
-        let slots = words::span(start % PAGE_SLOTS, (end - 1) % PAGE_SLOTS + 1);
-        return remove_slots(
+    if start / PAGE_SLOTS == (end - 1) / PAGE_SLOTS {
+        return retire_inside(
             w,
             sequences,
             values,
@@ -186,8 +215,8 @@ pub fn retire_span(
             blocks,
             returned,
             at,
-            page,
-            slots,
+            start,
+            end,
         );
     }
     retire_across(
