@@ -61,8 +61,8 @@ enum Work {
     SuccessorAfter(Vec<u32>),
     /// The window listed so many times.
     Iter { times: u32 },
-    /// Windows that were filled: ranges of so many positions removed, one after the other.
-    Ranges { length: u32 },
+    /// Windows that were filled where `holds` says so: ranges of so many positions removed, one after the other.
+    Ranges { length: u32, holds: fn(u32) -> bool },
     /// Windows that were filled and cleared: so many visits of a release.
     Releases { visits: u32 },
     /// Windows that were filled with so many values: cleared.
@@ -72,7 +72,7 @@ enum Work {
 }
 
 impl Work {
-    /// How many values a window is filled with before each pass, outside the time; none for the work that goes on by itself.
+    /// How many positions of a window are filled before each pass, outside the time; none for the work that goes on by itself.
     fn filled(&self, size: u32) -> Option<u32> {
         match self {
             Work::Ranges { .. } | Work::Releases { .. } => Some(size),
@@ -84,9 +84,17 @@ impl Work {
     /// How many calls are made in a filled window.
     fn calls_in_filled(&self, size: u32) -> u32 {
         match self {
-            Work::Ranges { length } => size / length,
+            Work::Ranges { length, .. } => size / length,
             Work::Releases { visits } => *visits,
             _ => 1,
+        }
+    }
+
+    /// Whether the position, counted from the first one filled, gets a value.
+    fn holds(&self, at: u32) -> bool {
+        match self {
+            Work::Ranges { holds, .. } => holds(at),
+            _ => true,
         }
     }
 }
@@ -205,14 +213,17 @@ fn rows() -> Vec<Row> {
         row("successor_after, sparse", every(100), Work::SuccessorAfter(asked(size, 1, 0)));
         row("iter, full", every(1), Work::Iter { times: (CALLS / size).max(1) });
         row("iter, nearly empty", vec![0, size / 3, size - 1], Work::Iter { times: CALLS / 64 });
-        for (name, length) in [
-            ("remove_range, 1", 1),
-            ("remove_range, 64", 64),
-            ("remove_range, 1000", 1000),
-            ("remove_range, 65536", 65536),
+        let all: fn(u32) -> bool = |_| true;
+        for (name, length, holds) in [
+            ("remove_range, 1", 1, all),
+            ("remove_range, 64", 64, all),
+            ("remove_range, 64, 5 % lost", 64, |at| at % 20 != 7),
+            ("remove_range, 64, every second", 64, |at| at % 2 == 0),
+            ("remove_range, 1000", 1000, all),
+            ("remove_range, 65536", 65536, all),
         ] {
             if length <= size {
-                row(name, vec![], Work::Ranges { length });
+                row(name, vec![], Work::Ranges { length, holds });
             }
         }
         row("release_retired, none retired", vec![], Work::NoneRetired);
@@ -242,8 +253,8 @@ fn prepare<W: Window>(windows: &mut [W], row: &Row) -> u64 {
                 break;
             }
         }
-        for sequence in START..START + filled {
-            add(w.insert(sequence, !sequence));
+        for at in (0..filled).filter(|&at| row.work.holds(at)) {
+            add(w.insert(START + at, !at));
         }
         if matches!(row.work, Work::Releases { .. }) {
             add(w.clear());
@@ -310,7 +321,7 @@ fn work<W: Window>(windows: &mut [W], row: &Row, from: &mut u32) -> (u32, u64) {
             }
             steps
         }
-        Work::Ranges { length } => {
+        Work::Ranges { length, .. } => {
             for w in windows.iter_mut() {
                 for range in 0..row.size / length {
                     let first = START + range * length;

@@ -202,7 +202,8 @@ fn list(stack: &mut Stack, seed: u64, options: Options) -> u32 {
 
 pub fn print() {
     let mut stack = Stack::new();
-    let mut made = 0;
+    let mut made = 1;
+    stack.call("packet_window_version", packet_window_version as *const (), &[], &[0; REGISTERS]);
     for seed in 1..=20 {
         for (large, small) in [(false, true), (false, false), (true, false)] {
             made += list(&mut stack, 9000 + seed, Options { large, small, clean: true });

@@ -1,15 +1,15 @@
--- A dense page drained by position, over plain variables: the words while bits are cleared, and one position, which is a turn of the
--- search by cells. Positions in a row are in RunLaws. Assumes nothing.
+-- A dense page drained by position, over plain variables: the lowest set bit cleared, the words while bits are cleared, and one
+-- position, which is a turn of the search by cells. Positions in a row are in RunLaws. Assumes nothing.
 use mathlib.Core.Path.{_≡_, refl, sym, ap, _∙_, subst}
 use mathlib.Core.Bool.{true}
 use mathlib.Core.List.{List}
-use Prim.Native.Nat.{ℕ, _+_, _-_, _^_, _≤_, _<_, min, max}
+use Prim.Native.Nat.{ℕ, zero, suc, _+_, _-_, _/_, _^_, _≤_, _<_, min, max}
 use native.Mathlib.Omega.{arith}
-use native.Mathlib.Decide.{ℕ-discrete}
+use native.Mathlib.Decide.{ℕ-discrete, decLt}
 use lib.Bits.{bitAnd, bitOr, and-le-l, and-le-r, or-lt}
 use lib.ListN.{length, getD, set, length-set}
 use Rattle.words.specs.Word.{bitAt, clearBit, lowest}
-use Rattle.words.proofs.BitLaws.{bit-lt, bit-and, bit-or, bit-not, ext-bits}
+use Rattle.words.proofs.BitLaws.{bit-lt, bit-zero, bit-suc, bit-none, bit-and, bit-or, bit-not, ext-bits}
 use Rattle.words.proofs.ChangeLaws.{with-same, with-other, with-lt}
 use Rattle.words.proofs.LowestLaws.{lowest-is, lowest-some}
 use Rattle.page_base.specs.declared.PageWords.{PageWords}
@@ -17,6 +17,66 @@ use Rattle.page_base.proofs.FindLaws.{dense-slot}
 use Rattle.page_remove.specs.declared.drain.Drained.{Drained}
 use Rattle.page_remove.specs.Contracts.{Drains, DrainsDense, denseWords}
 use Rattle.page_remove.proofs.DrainLoopLaws.{Draining, draining-begins, draining-turn, draining-ends, draining-empty}
+
+-- ---- the lowest set bit cleared: w & (w - 1)
+
+-- the number before w has bit k clear where bit k is the lowest set bit of w, and the bits above it as in w
+before-at : (k w : ℕ) → ((j : ℕ) → j < k → bitAt w j ≡ 0) → bitAt w k ≡ 1 → bitAt (w - 1) k ≡ 0
+before-at zero w low here = rw bit-zero (omega (arith, here, bit-zero w))
+before-at (suc k) w low here =
+    elim (ℕ-discrete w 0) [
+      | yes z ↦ absurd (omega (arith, here, ap (λ (x : ℕ). bitAt x (suc k)) z, bit-none (suc k)))
+      | no z ↦
+          let even = sym (bit-zero w) ∙ low 0 (omega arith) in
+          let half : (w - 1) / 2 ≡ w / 2 - 1 = omega (arith, even) in
+          rw (bit-suc, half) (before-at k (w / 2) (λ j l. sym (bit-suc w j) ∙ low (suc j) (omega arith)) (sym (bit-suc w k) ∙ here))
+    ]
+
+before-above : (k w j : ℕ) → ((i : ℕ) → i < k → bitAt w i ≡ 0) → bitAt w k ≡ 1 → k < j → bitAt (w - 1) j ≡ bitAt w j
+before-above k w zero low here l = absurd (omega arith)
+before-above zero w (suc j) low here l =
+    let half : (w - 1) / 2 ≡ w / 2 = omega (arith, here, bit-zero w) in
+    bit-suc (w - 1) j ∙ ap (λ (x : ℕ). bitAt x j) half ∙ sym (bit-suc w j)
+before-above (suc k) w (suc j) low here l =
+    elim (ℕ-discrete w 0) [
+      | yes z ↦ absurd (omega (arith, here, ap (λ (x : ℕ). bitAt x (suc k)) z, bit-none (suc k)))
+      | no z ↦
+          let even = sym (bit-zero w) ∙ low 0 (omega arith) in
+          let half : (w - 1) / 2 ≡ w / 2 - 1 = omega (arith, even) in
+          bit-suc (w - 1) j ∙ ap (λ (x : ℕ). bitAt x j) half
+          ∙ before-above k (w / 2) j (λ i m. sym (bit-suc w i) ∙ low (suc i) (omega arith)) (sym (bit-suc w k) ∙ here) (omega arith)
+          ∙ sym (bit-suc w j)
+    ]
+
+pub lowest-cleared : (w : ℕ) → w < 2 ^ 64 → 0 < w → bitAnd w (w - 1) ≡ clearBit w (lowest w 0)
+lowest-cleared w fits some =
+    ext-bits 64 (bitAnd w (w - 1)) (clearBit w (lowest w 0)) (omega (arith, and-le-l w (w - 1))) (with-lt 64 w (lowest w 0) 0 fits below (omega arith)) each
+  where
+    below : lowest w 0 < 64
+    below = lowest-some w fits (λ e. omega arith)
+
+    low : (j : ℕ) → j < lowest w 0 → bitAt w j ≡ 0
+    low j l = lowest-is w 0 (omega arith) .none j (omega arith) l
+
+    here : bitAt w (lowest w 0) ≡ 1
+    here = lowest-is w 0 (omega arith) .held below
+
+    each : (j : ℕ) → j < 64 → bitAt (bitAnd w (w - 1)) j ≡ bitAt (clearBit w (lowest w 0)) j
+    each j l =
+        elim (ℕ-discrete j (lowest w 0)) [
+          | yes e ↦
+              let z : bitAt (w - 1) j ≡ 0 = ap (bitAt (w - 1)) e ∙ before-at (lowest w 0) w low here in
+              let c : bitAt (clearBit w (lowest w 0)) j ≡ 0 = ap (bitAt (clearBit w (lowest w 0))) e ∙ with-same w (lowest w 0) 0 (omega arith) in
+              omega (arith, bit-and w (w - 1) j, z, c)
+          | no e ↦
+              bit-and w (w - 1) j
+              ∙ elim (decLt j (lowest w 0)) [
+                | yes m ↦ omega (arith, low j m, with-other w (lowest w 0) 0 j (omega arith) e)
+                | no m ↦
+                    let s = before-above (lowest w 0) w j low here (omega arith) in
+                    omega (arith, s, with-other w (lowest w 0) 0 j (omega arith) e)
+              ]
+        ]
 
 -- ---- the words, while bits of those selected are cleared
 

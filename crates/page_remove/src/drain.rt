@@ -7,6 +7,7 @@ ghost use Prim.Native.Nat.{_+_, _<_, _≤_};
 ghost use mathlib.Core.Path.{_≡_};
 ghost use lib.ListN.{length, drop};
 ghost use lib.Seq.{paste};
+ghost use Rattle.words.specs.Word.{lowest as lowestOf, clearBit};
 ghost use Rattle.page_remove.specs.Contracts.{Drains, DrainsDense, runLength};
 
 // The words of a page whose lowest values were taken out, how many they were, and whether each occupied position met had a cell.
@@ -14,6 +15,14 @@ pub struct Drained {
     pub words: PageWords,
     pub count: usize,
     pub sound: bool,
+}
+
+// w without its lowest set bit.
+fn clear_lowest(w: u64) -> u64
+    requires { ⌜ 0 < w ⌝ }
+    ensures { λ r. ⌜ r ≡ clearBit w (lowestOf w 0) ⌝ }
+{
+    w & (w - 1)
 }
 
 // How many positions in a row from `from` on are selected, at most `most`.
@@ -41,7 +50,7 @@ fn copy_values(values: &[u32], returned: &mut [u32], from: usize, at: usize, n: 
 }
 
 // The drain of a dense page, whose cells are its positions: nothing is searched for, the values of positions in a row are copied
-// together, and the page's words are made once, at the end.
+// together, and the page's words are made once, at the end. A position by itself is not worth a copy.
 fn drain_dense(
     values: &[u32],
     returned: &mut [u32],
@@ -61,6 +70,12 @@ fn drain_dense(
         }
         let from = words::lowest(selected, 0);
         let n = run_length(selected, from, limit - count);
+        if n == 1 {
+            returned[at + count] = values[from];
+            selected = clear_lowest(selected);
+            count += 1;
+            continue;
+        }
         copy_values(values, returned, from, at + count, n);
         selected = selected & !words::span(from, from + n);
         count += n;
