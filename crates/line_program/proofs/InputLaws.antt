@@ -25,7 +25,7 @@ use Rattle.line_program.specs.declared.notes.Notes.{Notes}
 use Rattle.line_program.specs.Notes.{noted, faultIn, notedLine, notedLines}
 use Rattle.line_program.proofs.PrintedLaws.{first-put, prints-some}
 use Rattle.line_program.proofs.NoteLaws.{noted-one, noted-on}
-use Rattle.line_program.specs.Contracts.{Kept, Answers, gathered, Holds, Takes, between, Stops, Ends}
+use Rattle.line_program.specs.Contracts.{Kept, Answers, gathered, Holds, LineEnds, Takes, between, Stops, Ends}
 
 -- ---- the bytes of a line that have come
 
@@ -197,12 +197,14 @@ between-feed from to l p q e =
     ap (λ (k : ℕ). take k (drop from l)) n ∙ take-suc (drop from l) (to - from) 0 (omega (arith, length-drop from l))
     ∙ ap (λ (x : ℕ). between from to l ++ (x ∷ [])) (getD-drop from l (to - from) 0 ∙ ap (λ (k : ℕ). getD l k 0) m ∙ e)
 
--- ---- a line noted: its answer begins where it was put
+-- ---- a line that has ended: what its bytes ask for was done, and it is noted, with its answer's first byte where it was put
 
-line-noted : (k : Window) (ns : Notes) (line : List ℕ) (n : ℕ) (b : List ℕ) → length line ≡ 64 → Holds line n b → (v : State) (at : ℕ) (out : List ℕ) (r : ℕ) (out′ : List ℕ)
-    → Answers (lineDoes k b) v at out r out′ → at ≤ length out → noted ns (faultOf line n) (getD out′ at 0) ≡ notedLine k ns b
-line-noted k ns line n b full h v at out r out′ a room =
-    λ i. noted ns (holds-fault line n b full h i) (first-put at (lineDoes k b .bytes) out r out′ (a .puts) (prints-some k b) room i)
+line-done : (u : State) (p : Program) (line : List ℕ) (n : ℕ) (out : List ℕ) (r : Program) (v : State) (out′ : List ℕ) (b : List ℕ) → Holds line n b → LineEnds u p line n out r v out′
+    → Answers (lineDoes (keptOf u) b) v (p .at) out (r .at) out′ × (r .notes ≡ notedLine (keptOf u) (p .notes) b)
+line-done u p line n out r v out′ b h e =
+    let does = subst (λ (x : Printed). Answers x v (p .at) out (r .at) out′) (line-said (keptOf u) line n b (e .places) h) (e .answers) in
+    let first = first-put (p .at) (lineDoes (keptOf u) b .bytes) out (r .at) out′ (does .puts) (prints-some (keptOf u) b) (e .room) in
+    (does, e .notes ∙ (λ i. noted (p .notes) (holds-fault line n b (e .places) h i) (first i)))
 
 -- ---- the bytes of a part up to its next line feed, or to its end
 
@@ -217,17 +219,16 @@ module _ (u : State) (part : List ℕ) (from to : ℕ) (next : NextByte part fro
       subst (λ (x : List ℕ). Takes u (r .notes) b x (r .at) out r line′ u out) (sym taken)
       (takes-rest u (r .notes) b (between from to part) (r .at) out r line′ (came .whole) k refl (subst (λ (x : ℕ). Holds line′ x (b ++ between from to part)) (sym f) came) refl)
 
-  pub line-ended : to < length part → length line ≡ 64 → (v : State) (ns : Notes) (at : ℕ) (out : List ℕ) (r : Program) (out′ : List ℕ)
-      → Answers (saidLine (keptOf u) (gathered line′ n′)) v at out (r .at) out′ → at ≤ length out → r .from ≡ to + 1 → r .length ≡ 0
-      → r .notes ≡ noted ns (faultOf line′ n′) (getD out′ at 0) → Takes u ns b (between from (r .from) part) at out r line′ v out′
-  line-ended l full v ns at out r out′ t room e f m =
+  pub line-ended : to < length part → (p : Program) (out : List ℕ) (r : Program) (v : State) (out′ : List ℕ) → LineEnds u p line′ n′ out r v out′ → r .from ≡ to + 1
+      → Takes u (p .notes) b (between from (r .from) part) (p .at) out r line′ v out′
+  line-ended l p out r v out′ e f =
       let seg = between from to part in
-      let taken : between from (r .from) part ≡ seg ++ (10 ∷ []) = ap (λ (x : ℕ). between from x part) e ∙ between-feed from to part (next .from-le) l (next .found l) in
+      let taken : between from (r .from) part ≡ seg ++ (10 ∷ []) = ap (λ (x : ℕ). between from x part) f ∙ between-feed from to part (next .from-le) l (next .found l) in
       let whole : parts 10 (b ++ (seg ++ (10 ∷ []))) ≡ (b ++ seg) ∷ [] ∷ [] =
       ap (parts 10) (sym (append-assoc b seg (10 ∷ []))) ∙ ends-part 10 10 (b ++ seg) (came .whole) refl in
-      let said = subst (λ (p : Printed). Answers p v at out (r .at) out′) (line-said (keptOf u) line′ n′ (b ++ seg) (same ∙ full) came) t in
-      let told : r .notes ≡ notedLine (keptOf u) ns (b ++ seg) = m ∙ line-noted (keptOf u) ns line′ n′ (b ++ seg) (same ∙ full) came v at out (r .at) out′ said room in
-      subst (λ (x : List ℕ). Takes u ns b x at out r line′ v out′) (sym taken) (takes-line u ns b (seg ++ (10 ∷ [])) at out r line′ v out′ (b ++ seg) whole said f told)
+      let done = line-done u p line′ n′ out r v out′ (b ++ seg) came e in
+      subst (λ (x : List ℕ). Takes u (p .notes) b x (p .at) out r line′ v out′) (sym taken)
+      (takes-line u (p .notes) b (seg ++ (10 ∷ [])) (p .at) out r line′ v out′ (b ++ seg) whole (done .0) (e .begins) (done .1))
 
 -- ---- the end of the input
 
@@ -242,17 +243,14 @@ some-left : (n : ℕ) (line b : List ℕ) → (n ≡ 0 → ⊥) → Holds line n
 some-left n line [] z h = absurd (z (h .short (omega arith) .0))
 some-left n line (x ∷ b) z h = refl
 
-pub last-answered : (u v : State) (ns : Notes) (line : List ℕ) (n : ℕ) (b : List ℕ) (at : ℕ) (out : List ℕ) (r : Program) (out′ : List ℕ) → length line ≡ 64 → (n ≡ 0 → ⊥)
-    → Holds line n b → Answers (saidLine (keptOf u) (gathered line n)) v at out (r .at) out′ → at ≤ length out → r .notes ≡ noted ns (faultOf line n) (getD out′ at 0)
-    → Ends u ns b at out r v out′
-last-answered u v ns line n b at out r out′ full z h t room m =
+pub last-answered : (u : State) (p : Program) (line : List ℕ) (n : ℕ) (out : List ℕ) (r : Program) (v : State) (out′ : List ℕ) (b : List ℕ) → (n ≡ 0 → ⊥) → Holds line n b
+    → LineEnds u p line n out r v out′ → Ends u (p .notes) b (p .at) out r v out′
+last-answered u p line n out r v out′ b z h e =
     let one : unlessEmpty b ≡ b ∷ [] = some-left n line b z h in
-    let said = subst (λ (p : Printed). Answers p v at out (r .at) out′) (line-said (keptOf u) line n b full h) t in
+    let done = line-done u p line n out r v out′ b h e in
     record {
-      answers = subst (λ (p : Printed). Answers p v at out (r .at) out′) (sym (lines-one (keptOf u) b) ∙ ap (linesDo (keptOf u)) (sym one)) said;
-      notes =
-          m ∙ line-noted (keptOf u) ns line n b full h v at out (r .at) out′ said room ∙ sym (noted-one (keptOf u) ns b)
-          ∙ ap (notedLines (keptOf u) ns) (sym one);
+      answers = subst (λ (x : Printed). Answers x v (p .at) out (r .at) out′) (sym (lines-one (keptOf u) b) ∙ ap (linesDo (keptOf u)) (sym one)) (done .0);
+      notes = done .1 ∙ sym (noted-one (keptOf u) (p .notes) b) ∙ ap (notedLines (keptOf u) (p .notes)) (sym one);
     }
 
 -- ---- parts put together

@@ -6,7 +6,7 @@ use mathlib.Core.List.{List, [], _∷_, _++_}
 use Prim.Native.Nat.{ℕ, _+_, _-_, _≤_, _<_}
 use denote.Ref.{RefT, now}
 use lib.Dec.{ltb}
-use lib.ListN.{length, take, drop}
+use lib.ListN.{length, getD, take, drop}
 use Rattle.line_text.specs.Lines.{Line, lineOf, parts, ended, waiting}
 use Rattle.line_text.specs.PrintContracts.{Puts}
 use Rattle.window.specs.declared.AdaptiveReceiverPacketWindow.{AdaptiveReceiverPacketWindow}
@@ -16,11 +16,12 @@ use Rattle.model.specs.Window.{Window}
 use Rattle.model.specs.Sound.{Sound}
 use Rattle.model.specs.Contract.{State, windowOf, lengthsFit}
 use Rattle.call_base.specs.Answers.{stateOf}
-use Rattle.line_program.specs.Program.{keptOf, Printed, linesDo, unlessEmpty}
+use Rattle.line_faults.specs.Faults.{faultOf}
+use Rattle.line_program.specs.Program.{keptOf, Printed, saidLine, linesDo, unlessEmpty}
 use Rattle.line_program.specs.declared.answer.Answered.{Answered}
 use Rattle.line_program.specs.declared.Program.{Program}
 use Rattle.line_program.specs.declared.notes.Notes.{Notes}
-use Rattle.line_program.specs.Notes.{notedLines}
+use Rattle.line_program.specs.Notes.{noted, notedLines}
 
 -- what the program keeps between lines: once an n is accepted, a sound window with lists as long as it names them
 pub record Kept (u : State) : Type 0 where
@@ -54,6 +55,20 @@ pub record Holds (line : List ℕ) (n : ℕ) (b : List ℕ) : Type 0 where
   pub whole : parts 10 b ≡ b ∷ []
   pub short : length b ≤ length line → (n ≡ length b) × (take n line ≡ b)
   pub long : length line < length b → n ≡ length line + 1
+
+-- the line in the first n places of `line` has ended: it was answered, what was wrong with it noted, and the next begins
+pub record LineEnds (u : State) (p : Program) (line : List ℕ) (n : ℕ) (out : List ℕ) (r : Program) (u′ : State) (out′ : List ℕ) : Type 0 where
+  pub answers : Answers (saidLine (keptOf u) (gathered line n)) u′ (p .at) out (r .at) out′
+  pub notes : r .notes ≡ noted (p .notes) (faultOf line n) (getD out′ (p .at) 0)
+  pub begins : r .length ≡ 0
+  pub places : length line ≡ 64
+  pub room : p .at ≤ length out
+
+-- as a signature says it; the program goes on at `from`
+abbrev pub LineEndsBy : Program → Lent → (n from : ℕ) → (sequences values pages blocks out : Lent) → Program → Type 0
+LineEndsBy p line n from ss vs pages blocks out r =
+    (r .from ≡ from)
+    × LineEnds (stateOf (p .window) (foundIn ss vs pages blocks)) p (now (line .entry)) n (now (out .entry)) r (stateOf (r .window) (leftIn ss vs pages blocks)) (now (out .exit))
 
 -- ---- a part of the input
 

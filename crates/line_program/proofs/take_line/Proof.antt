@@ -9,30 +9,30 @@ use mathlib.Core.Path.{refl}
 use Rattle.line_program.proofs.take_line.Statement.{statement}
 use Rattle.line_program.proofs.take_line.Tie as tie
 
--- src/lib.rt:55:9
+-- src/lib.rt:98:9
 next-byte-requires : tie.Need-next-byte-requires
 next-byte-requires c κs = search needs
 
--- src/lib.rt:56:41
+-- src/lib.rt:99:41
 sub-append : tie.Need-sub-append
 sub-append c = search needs
 
--- src/lib.rt:56:41
+-- src/lib.rt:99:41
 part-append-start : tie.Need-part-append-start
 part-append-start c = search needs
 
--- src/lib.rt:56:41
+-- src/lib.rt:99:41
 part-append-end : tie.Need-part-append-end
 part-append-end c = search needs
 
--- src/lib.rt:56:9
+-- src/lib.rt:99:9
 append-requires : tie.Need-append-requires
 append-requires c κs = search needs
 
--- src/lib.rt:58:9
+-- src/lib.rt:104:9
 returns : tie.Need-returns
 returns c =
-    let s = c .before .before .before .before .before .before .before .before in
+    let s = c .before .before .before .before .before .before in
     let t = c .before .before .before .before .next-byte in
     let a = c .before .append in
     let u = stateOf (s .args .p .window) (memory (now (s .args .sequences)) (now (s .args .values)) (now (s .args .pages)) (now (s .args .blocks))) in (
@@ -43,35 +43,26 @@ returns c =
       ),
     )
 
--- src/lib.rt:66:9
-answer-line-requires : tie.Need-answer-line-requires
-answer-line-requires c κs = search needs
+-- src/lib.rt:110:9
+add-end-line : tie.Need-add-end-line
+add-end-line c = search needs
 
--- src/lib.rt:84:15
-add-t23 : tie.Need-add-t23
-add-t23 c = omega (arith, c .before .before .before .before .before .before .before .before .before .before .before .if1 .left, c .before .before .before .before .before .before .before .before .before .before .before .before .before .before .before .next-byte .ensures .le-length, c .before .before .before .before .before .before .before .before .before .before .before .before .before .before .before .before .before .before .before .good)
+-- src/lib.rt:106:5
+end-line-requires : tie.Need-end-line-requires
+end-line-requires c κs = search needs
 
--- src/lib.rt:86:42
-element-copy-out-note : tie.Need-element-copy-out-note
-element-copy-out-note c = omega (arith, c .before .before .before .before .before .before .before .before .before .before .before .before .before .before .before .before .before .before .before .before .before .pre .1 .0)
-
--- src/lib.rt:86:16
-note-requires : tie.Need-note-requires
-note-requires c κs = search needs
-
--- src/lib.rt:31:1
+-- src/lib.rt:77:1
 returns-2 : tie.Need-returns-2
 returns-2 c =
-    let s = c .before .before .before .before .before .before .before .before .before .before .before .before .before .before .before .before .before .before .before .before .before .before .before in
-    let t = c .before .before .before .before .before .before .before .before .before .before .before .before .before .before .before .before .before .before .before .next-byte in
-    let a = c .before .before .before .before .before .before .before .before .before .before .before .before .before .before .before .before .append in
-    let answered = c .before .before .before .before .before .answer-line .ensures .1 in
+    let s = c .before .before .before .before .before .before .before .before .before .before .before .before .before .before .before .before in
+    let t = c .before .before .before .before .before .before .before .before .before .before .before .before .before .before .next-byte in
+    let a = c .before .before .before .before .before .before .before .before .before .before .before .append in
+    let e = c .end-line .ensures in
     let u = stateOf (s .args .p .window) (memory (now (s .args .sequences)) (now (s .args .values)) (now (s .args .pages)) (now (s .args .blocks))) in (
-      (omega (arith, t .ensures .from-le), omega (arith, t .ensures .le-length, c .before .before .before .before .before .before .before .before .before .before .before .before .before .before .before .if1 .left)),
+      (omega (arith, t .ensures .from-le, e .0), omega (arith, t .ensures .le-length, c .before .before .before .before .before .before .before .before .before .before .if1 .left, e .0)),
       (
-        λ b h. line-ended u _ _ _ (t .ensures) _ _ _ _ (a .ensures) (a .kept .0) b h (omega (arith, t .ensures .le-length, c .before .before .before .before .before .before .before .before .before .before .before .before .before .before .before .if1 .left))
-            (c .before .before .before .before .before .before .before .before .before .before .before .before .before .before .before .before .before .before .append-arg .given .0 .1) _ _ _ _ _ _ answered (c .before .before .before .before .before .answer-line .ensures .0) refl refl (c .note .ensures),
-        answered .kept,
+        λ b h. line-ended u _ _ _ (t .ensures) _ _ _ _ (a .ensures) (a .kept .0) b h (omega (arith, t .ensures .le-length, c .before .before .before .before .before .before .before .before .before .before .if1 .left)) (s .args .p) _ _ _ _ (e .1) (e .0),
+        e .1 .answers .kept,
       ),
     )
 
@@ -85,8 +76,6 @@ take-line-spec =
     part-append-end
     append-requires
     returns
-    answer-line-requires
-    add-t23
-    element-copy-out-note
-    note-requires
+    add-end-line
+    end-line-requires
     returns-2)
