@@ -1,14 +1,13 @@
 -- Every line prints a byte at least, and the first stands where the line was put. Assumes nothing.
-use mathlib.Core.Path.{_≡_, refl, sym, ap, _∙_}
+use mathlib.Core.Path.{_≡_, sym, ap, _∙_}
 use mathlib.Core.Bool.{Bool, true, false, cond}
 use mathlib.Core.Option.{Option, none, some}
 use mathlib.Core.List.{List, [], _∷_, _++_}
-use Prim.Native.Nat.{ℕ, zero, suc, _+_, _-_, _≤_, _<_}
+use Prim.Native.Nat.{ℕ, zero, suc, _+_, _≤_, _<_}
 use native.Mathlib.Omega.{arith}
 use lib.Dec.{ltb}
-use lib.ListN.{length, getD, take, length-append}
-use lib.Seq.{length-take-le}
-use Rattle.words.proofs.CaseLaws.{bool}
+use lib.ListN.{length, getD, take}
+use lib.Seq.{length-take-le, getD-take, getD-append-add}
 use Rattle.window.specs.Refusals.{limits}
 use Rattle.line_text.specs.Lines.{Line, lineOf}
 use Rattle.line_text.specs.PrintContracts.{Puts}
@@ -58,19 +57,8 @@ module _ (k : Window) where
 
 -- ---- where it was put
 
-after-prefix : (xs ys : List ℕ) (n : ℕ) → length xs ≡ n → getD (xs ++ ys) n 0 ≡ getD ys 0 0
-after-prefix [] ys zero e = refl
-after-prefix [] ys (suc n) e = absurd (omega arith)
-after-prefix (x ∷ xs) ys zero e = absurd (omega arith)
-after-prefix (x ∷ xs) ys (suc n) e = after-prefix xs ys n (omega arith)
-
-below-take : (xs : List ℕ) (r i : ℕ) → i < r → getD (take r xs) i 0 ≡ getD xs i 0
-below-take xs zero i l = absurd (omega arith)
-below-take [] (suc r) i l = refl
-below-take (x ∷ xs) (suc r) zero l = refl
-below-take (x ∷ xs) (suc r) (suc i) l = below-take xs r i (omega arith)
-
 pub first-put : (at : ℕ) (bytes out : List ℕ) (r : ℕ) (out′ : List ℕ) → Puts at bytes out r out′ → 0 < length bytes → at ≤ length out → getD out′ at 0 ≡ getD bytes 0 0
 first-put at bytes out r out′ p l room =
-    sym (below-take out′ r at (omega (arith, p .end))) ∙ ap (λ (xs : List ℕ). getD xs at 0) (p .filled)
-    ∙ after-prefix (take at out) bytes at (length-take-le at out room)
+    let e : at ≡ length (take at out) + 0 = omega (arith, length-take-le at out room) in
+    sym (getD-take r out′ at 0 (omega (arith, p .end))) ∙ ap (λ (xs : List ℕ). getD xs at 0) (p .filled)
+    ∙ ap (λ (n : ℕ). getD (take at out ++ bytes) n 0) e ∙ getD-append-add (take at out) bytes 0 0
