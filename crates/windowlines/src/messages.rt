@@ -1,6 +1,8 @@
 // What standard error is told, a line for each message. A message that cannot be written is lost.
 use line_faults::Fault;
 use line_program::notes::Notes;
+ghost use mathlib.Core.Path.{_≡_};
+ghost use mathlib.Core.Bool.{_||_};
 
 // Bytes to standard error.
 fn tell(text: &[u8]) {
@@ -33,17 +35,19 @@ fn tell_fault(number: u64, fault: Fault) {
     tell_what(fault);
 }
 
-// The first line of a run that printed `?`, unless it was told before: whether it is told now.
-pub fn tell_first(told: bool, notes: Notes) -> bool {
+// The first line of a run that printed `?`, unless it was told before: whether one is told by now.
+pub fn tell_first(told: bool, notes: Notes) -> bool
+    ensures { λ r. ⌜ r ≡ (told || notes .unknown) ⌝ }
+{
     if told {
         return true;
     }
-    if !notes.unknown {
-        return false;
+    if notes.unknown {
+        let fault = notes.fault;
+        tell_fault(notes.number, fault);
+        return true;
     }
-    let fault = notes.fault;
-    tell_fault(notes.number, fault);
-    true
+    false
 }
 
 // A write to standard output failed, and the program ends.

@@ -8,11 +8,11 @@ use line_program::answer::PAGE_LIST;
 use line_program::take_last;
 use line_program::take_lines;
 ghost use Prim.Native.Nat.{_≤_, _<_};
-ghost use lib.ListN.{length};
+ghost use lib.ListN.{length, take};
 ghost use Rattle.window.specs.Memory.{memory};
 ghost use Rattle.window.specs.Lent.{leftIn};
 ghost use Rattle.call_base.specs.Answers.{stateOf};
-ghost use Rattle.line_program.specs.Contracts.{Kept, KeptIn};
+ghost use Rattle.line_program.specs.Contracts.{Kept, KeptIn, TakesBy, Stops};
 ghost use Rattle.windowlines.specs.Run.{Going, Refilled, Written};
 
 // The program, how many bytes of the input have come in the part that it stands in, whether the first line that is no call was told,
@@ -97,7 +97,9 @@ fn take_part(
     requires { ⌜ KeptIn (r .program .window) sequences values pages blocks ⌝ }
     requires { ⌜ r .n ≤ length (now input) ⌝ }
     requires { ⌜ r .program .from ≤ r .n ⌝ }
-    ensures { λ p. ⌜ (Kept (stateOf (p .window) (leftIn sequences values pages blocks))) × (p .from ≤ r .n) ⌝ }
+    ensures { λ p. ⌜ TakesBy (r .program) (take (r .n) (now (input .entry))) line sequences values pages blocks out p ⌝ }
+    ensures { λ p. ⌜ Stops (r .program) (r .n) p ⌝ }
+    ensures { λ p. ⌜ Kept (stateOf (p .window) (leftIn sequences values pages blocks)) ⌝ }
 {
     let program = r.program;
     let n = r.n;

@@ -7,36 +7,36 @@ use native.Mathlib.Omega.{arith}
 use Rattle.windowlines.proofs.run.turn.Statement.{statement}
 use Rattle.windowlines.proofs.run.turn.Tie as tie
 
--- src/run.rt:118:9
+-- src/run.rt:139:9
 refill-requires : tie.Need-refill-requires
 refill-requires c κs = search needs
 
--- src/run.rt:120:9
+-- src/run.rt:141:9
 returns : tie.Need-returns
 returns c =
     let s = c .before .before .before .before in
     let t = c .before .before .refill .ensures in
     (refilled (s .args .r) _ _ (s .pre) t, λ l. omega (arith, c .if1 .taken))
 
--- src/run.rt:122:9
+-- src/run.rt:143:9
 take-part-requires : tie.Need-take-part-requires
 take-part-requires c κs =
     let s = c .before .before .before .before .before .before .before .before .before .before .before .before .before .before .before in
     let g = refilled (s .args .r) _ (memory (now (s .args .sequences)) (now (s .args .values)) (now (s .args .pages)) (now (s .args .blocks))) (s .pre) (c .before .before .before .before .before .before .before .before .before .before .before .before .before .refill .ensures) in
     (g .kept, (omega (arith, g .few, c .before .before .before .before .before .before .before .before .before .take-part-arg2 .given .0), g .from-le))
 
--- src/run.rt:135:5
+-- src/run.rt:156:5
 put-out-requires : tie.Need-put-out-requires
 put-out-requires c κs = search needs
 
--- src/run.rt:102:1
+-- src/run.rt:122:1
 returns-2 : tie.Need-returns-2
 returns-2 c =
     let s = c .before .before .before .before .before .before .before .before .before .before .before .before .before .before .before .before .before .before .before in
     let t = c .before .before .before .before .before .before .before .before .before .before .before .before .before .before .before .before .before .refill .ensures in
     let p = c .before .before .before .take-part in
     let w = c .put-out .ensures in
-    (written _ _ (p .result) _ _ (refilled (s .args .r) _ (memory (now (s .args .sequences)) (now (s .args .values)) (now (s .args .pages)) (now (s .args .blocks))) (s .pre) t) (p .ensures) w, λ l. omega (arith, t .turns, w .turns (omega (arith, c .before .before .before .before .before .before .before .before .before .before .before .before .before .before .before .if1 .left))))
+    (written _ _ (p .result) _ _ (refilled (s .args .r) _ (memory (now (s .args .sequences)) (now (s .args .values)) (now (s .args .pages)) (now (s .args .blocks))) (s .pre) t) (p .ensures .1 .0) (p .ensures .1 .1) w, λ l. omega (arith, t .turns, w .turns (omega (arith, c .before .before .before .before .before .before .before .before .before .before .before .before .before .before .before .if1 .left))))
 
 pub turn-spec : {M : Type 1} → statement M
 turn-spec =
