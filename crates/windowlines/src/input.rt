@@ -1,5 +1,5 @@
 // Standard input, a part at a time.
-use crate::messages::tell_read_failed;
+use crate::messages::tell;
 ghost use Prim.Native.Nat.{_≤_};
 
 // Reads once: how many bytes came; 0 at the end of the input or on an error, which is told.
@@ -8,7 +8,7 @@ pub fn read_some(input: &mut [u8; 65536]) -> usize
 {
     let got = libc::read(0, input);
     if got < 0 {
-        tell_read_failed();
+        tell(b"windowlines: standard input could not be read, calls are lost\n");
         return 0;
     }
     io::count(got, input)

@@ -5,7 +5,7 @@ ghost use mathlib.Core.Path.{_≡_};
 ghost use mathlib.Core.Bool.{_||_};
 
 // Bytes to standard error.
-fn tell(text: &[u8]) {
+pub fn tell(text: &[u8]) {
     io::write_all(2, text);
 }
 
@@ -48,14 +48,4 @@ pub fn tell_first(told: bool, notes: Notes) -> bool
         return true;
     }
     false
-}
-
-// A write to standard output failed, and the program ends.
-pub fn tell_write_failed() {
-    tell(b"windowlines: standard output could not be written, answers are lost\n");
-}
-
-// A read of standard input failed, and the program ends.
-pub fn tell_read_failed() {
-    tell(b"windowlines: standard input could not be read, calls are lost\n");
 }

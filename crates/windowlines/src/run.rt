@@ -7,12 +7,14 @@ use line_program::answer::BLOCK_LIST;
 use line_program::answer::PAGE_LIST;
 use line_program::take_last;
 use line_program::take_lines;
+ghost use mathlib.Core.Path.{_≡_};
+ghost use mathlib.Core.Bool.{true, false};
 ghost use Prim.Native.Nat.{_≤_, _<_};
 ghost use lib.ListN.{length, take};
 ghost use Rattle.window.specs.Memory.{memory};
 ghost use Rattle.window.specs.Lent.{leftIn};
 ghost use Rattle.call_base.specs.Answers.{stateOf};
-ghost use Rattle.line_program.specs.Contracts.{Kept, KeptIn, TakesBy, Stops};
+ghost use Rattle.line_program.specs.Contracts.{Kept, KeptIn, TakesBy, Stops, EndsBy};
 ghost use Rattle.windowlines.specs.Run.{Going, Refilled, Written};
 
 // The program, how many bytes of the input have come in the part that it stands in, whether the first line that is no call was told,
@@ -156,7 +158,7 @@ pub fn turn(
     put_out(run, program, out)
 }
 
-// The end of the input: the answer of a last line without a line feed.
+// The end of the input: the answer of a last line without a line feed, unless a write has failed. The program after it.
 pub fn finish(
     r: Run,
     line: &[u8; 64],
@@ -168,13 +170,15 @@ pub fn finish(
     listed_sequences: &mut [u32; 4096],
     listed_values: &mut [u32; 4096],
     out: &mut [u8; 262144],
-)
+) -> Program
     requires { ⌜ Going r (memory (now sequences) (now values) (now pages) (now blocks)) ⌝ }
+    ensures { λ p. ⌜ (r .failed ≡ true → p ≡ r .program) ⌝ }
+    ensures { λ p. ⌜ (r .failed ≡ false → EndsBy (r .program) line sequences values pages blocks out p) ⌝ }
 {
-    if r.failed {
-        return;
-    }
     let program = r.program;
+    if r.failed {
+        return program;
+    }
     let last = take_last(
         program,
         line,
@@ -188,4 +192,5 @@ pub fn finish(
         out,
     );
     put_out(r, last, out);
+    last
 }

@@ -5,16 +5,16 @@ use native.Mathlib.Omega.{arith}
 use Rattle.windowlines.proofs.run.refill.Statement.{statement}
 use Rattle.windowlines.proofs.run.refill.Tie as tie
 
--- src/run.rt:47:9
+-- src/run.rt:49:9
 returns : tie.Need-returns
 returns c =
     record { stays = λ l. refl; program = λ l. absurd (omega (arith, c .if1 .taken)); few = λ l. l; told = refl; failed = refl; turns = omega arith }
 
--- src/run.rt:49:9
+-- src/run.rt:51:9
 read-some-requires : tie.Need-read-some-requires
 read-some-requires c κs = search needs
 
--- src/run.rt:59:9
+-- src/run.rt:61:9
 returns-2 : tie.Need-returns-2
 returns-2 c = record {
   stays = λ l. absurd (omega (arith, c .before .before .before .if1 .left));
@@ -25,7 +25,7 @@ returns-2 c = record {
   turns = omega arith;
 }
 
--- src/run.rt:42:1
+-- src/run.rt:44:1
 returns-3 : tie.Need-returns-3
 returns-3 c = record {
   stays = λ l. absurd (omega (arith, c .before .before .before .if1 .left));

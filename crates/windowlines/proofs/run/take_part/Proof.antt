@@ -8,23 +8,23 @@ use lib.Seq.{length-take-le}
 use Rattle.windowlines.proofs.run.take_part.Statement.{statement}
 use Rattle.windowlines.proofs.run.take_part.Tie as tie
 
--- src/run.rt:108:9
+-- src/run.rt:110:9
 sub-take-lines : tie.Need-sub-take-lines
 sub-take-lines c = search needs
 
--- src/run.rt:108:9
+-- src/run.rt:110:9
 part-take-lines-start : tie.Need-part-take-lines-start
 part-take-lines-start c = search needs
 
--- src/run.rt:108:9
+-- src/run.rt:110:9
 part-take-lines-end : tie.Need-part-take-lines-end
 part-take-lines-end c = search needs
 
--- src/run.rt:106:5
+-- src/run.rt:108:5
 take-lines-requires : tie.Need-take-lines-requires
 take-lines-requires c κs = search needs
 
--- src/run.rt:84:1
+-- src/run.rt:86:1
 returns : tie.Need-returns
 returns c =
     let s = c .before .before .before .before .before .before .before .before .before .before .before .before .before in

@@ -7,29 +7,29 @@ use native.Mathlib.Omega.{arith}
 use Rattle.windowlines.proofs.run.turn.Statement.{statement}
 use Rattle.windowlines.proofs.run.turn.Tie as tie
 
--- src/run.rt:139:9
+-- src/run.rt:141:9
 refill-requires : tie.Need-refill-requires
 refill-requires c κs = search needs
 
--- src/run.rt:141:9
+-- src/run.rt:143:9
 returns : tie.Need-returns
 returns c =
     let s = c .before .before .before .before in
     let t = c .before .before .refill .ensures in
     (refilled (s .args .r) _ _ (s .pre) t, λ l. omega (arith, c .if1 .taken))
 
--- src/run.rt:143:9
+-- src/run.rt:145:9
 take-part-requires : tie.Need-take-part-requires
 take-part-requires c κs =
     let s = c .before .before .before .before .before .before .before .before .before .before .before .before .before .before .before in
     let g = refilled (s .args .r) _ (memory (now (s .args .sequences)) (now (s .args .values)) (now (s .args .pages)) (now (s .args .blocks))) (s .pre) (c .before .before .before .before .before .before .before .before .before .before .before .before .before .refill .ensures) in
     (g .kept, (omega (arith, g .few, c .before .before .before .before .before .before .before .before .before .take-part-arg2 .given .0), g .from-le))
 
--- src/run.rt:156:5
+-- src/run.rt:158:5
 put-out-requires : tie.Need-put-out-requires
 put-out-requires c κs = search needs
 
--- src/run.rt:122:1
+-- src/run.rt:124:1
 returns-2 : tie.Need-returns-2
 returns-2 c =
     let s = c .before .before .before .before .before .before .before .before .before .before .before .before .before .before .before .before .before .before .before in
