@@ -17,36 +17,36 @@ abbrev μ-loop : tie.MeasureT-loop
 μ-loop part line₀ sequences₀ values₀ pages₀ blocks₀ returned₀ listed-sequences₀ listed-values₀ out₀ program₀ line sequences values pages blocks returned listed-sequences listed-values out program =
     length part - program .from
 
--- src/lib.rt:111:5
+-- src/lib.rt:143:5
 loop-holds : tie.Need-loop-holds Inv-loop μ-loop
 loop-holds c =
     let s = c .before in
     taken-none _ _ _ _ _ (s .pre .0) (s .pre .1)
 
--- src/lib.rt:115:9
+-- src/lib.rt:147:9
 take-line-requires : tie.Need-take-line-requires Inv-loop μ-loop
 take-line-requires c κs =
     let i = c .before .before .before .before .before .before .before .before .before .before .before .before .before .loop .inv in
     (i .kept, (omega (arith, c .before .before .before .before .before .before .before .before .before .if2 .left), c .before .before .before .before .before .before .before .before .before .before .before .if1 .taken))
 
--- src/lib.rt:111:5
+-- src/lib.rt:143:5
 loop-less : tie.Need-loop-less Inv-loop μ-loop
 loop-less c =
     omega (arith, c .take-line .ensures .0 .0, c .take-line .ensures .0 .1)
 
--- src/lib.rt:111:5
+-- src/lib.rt:143:5
 loop-again : tie.Need-loop-again Inv-loop μ-loop
 loop-again c =
     let t = c .take-line .ensures in
     taken-more _ _ _ _ _ _ _ _ _ (c .before .before .before .before .before .before .before .before .before .before .before .before .before .before .loop .inv) _ _ _ _ (t .0) (t .1 .0) (t .1 .1)
 
--- src/lib.rt:91:1
+-- src/lib.rt:123:1
 returns : tie.Need-returns Inv-loop μ-loop
 returns c =
     let i = c .before .before .loop .inv in
     (i .takes, (stops-end _ _ _ _ _ _ _ _ _ i (omega (arith, c .if1 .left)), i .kept))
 
--- src/lib.rt:91:1
+-- src/lib.rt:123:1
 returns-2 : tie.Need-returns-2 Inv-loop μ-loop
 returns-2 c =
     let i = c .before .before .before .before .loop .inv in
