@@ -54,7 +54,8 @@ fn retire_round(
 }
 
 // The live values at `count` positions in a row from `start`. What is put into the return list stands there from 0 on. A range that
-// does not wrap is one stretch; its two forms are named here, so that the most frequent range, inside one page, goes straight there.
+// does not wrap is one stretch; the two cases of retire_span stand here, so that a range inside one page, the most frequent, goes
+// through one function less.
 pub fn retire_range(
     w: AdaptiveReceiverPacketWindow,
     sequences: &mut [u32],
