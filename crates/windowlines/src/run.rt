@@ -8,14 +8,14 @@ use line_program::answer::PAGE_LIST;
 use line_program::take_last;
 use line_program::take_lines;
 ghost use mathlib.Core.Path.{_≡_};
-ghost use mathlib.Core.Bool.{true, false};
-ghost use Prim.Native.Nat.{_≤_, _<_};
+ghost use mathlib.Core.Bool.{true, false, cond};
+ghost use Prim.Native.Nat.{_-_, _≤_, _<_};
 ghost use lib.ListN.{length, take};
 ghost use Rattle.window.specs.Memory.{memory};
 ghost use Rattle.window.specs.Lent.{leftIn};
 ghost use Rattle.call_base.specs.Answers.{stateOf};
 ghost use Rattle.line_program.specs.Contracts.{Kept, KeptIn, TakesBy, Stops, EndsBy};
-ghost use Rattle.windowlines.specs.Run.{Going, Refilled, Written};
+ghost use Rattle.windowlines.specs.Run.{Going, Refilled, Written, Turned};
 
 // The program, how many bytes of the input have come in the part that it stands in, whether the first line that is no call was told,
 // whether a write has failed, and how many turns are left: none once the input has ended or a write has failed.
@@ -29,7 +29,7 @@ pub struct Run {
 
 // The turns left after another, of which the write failed or not.
 fn turns_after(turns: u64, failed: bool) -> u64
-    ensures { λ r. ⌜ (0 < turns → r < turns) ⌝ }
+    ensures { λ r. ⌜ r ≡ cond failed 0 (turns - 1) ⌝ }
 {
     if failed {
         return 0;
@@ -42,7 +42,7 @@ fn turns_after(turns: u64, failed: bool) -> u64
 
 // The next part of the input, if the one before is used up.
 fn refill(r: Run, input: &mut [u8; 65536]) -> Run
-    ensures { λ s. ⌜ Refilled r s ⌝ }
+    ensures { λ s. ⌜ Refilled r (now (input .entry)) s (now (input .exit)) ⌝ }
 {
     let mut program = r.program;
     if program.from < r.n {
@@ -66,7 +66,7 @@ fn refill(r: Run, input: &mut [u8; 65536]) -> Run
 
 // The output of `program` written.
 fn put_out(r: Run, program: Program, out: &[u8]) -> Run
-    ensures { λ s. ⌜ Written r program s ⌝ }
+    ensures { λ s. ⌜ Written r program (now (out .entry)) s ⌝ }
 {
     let mut written = program;
     let notes = program.notes;
@@ -137,6 +137,7 @@ pub fn turn(
     requires { ⌜ Going r (memory (now sequences) (now values) (now pages) (now blocks)) ⌝ }
     ensures { λ s. ⌜ Going s (leftIn sequences values pages blocks) ⌝ }
     ensures { λ s. ⌜ (0 < r .turns → s .turns < r .turns) ⌝ }
+    ensures { λ s. ⌜ Turned r input line sequences values pages blocks out s ⌝ }
 {
     let run = refill(r, input);
     if run.turns == 0 {

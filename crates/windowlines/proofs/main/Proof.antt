@@ -35,7 +35,7 @@ turn-requires c κs = c .before .before .before .before .before .before .before 
 
 -- src/main.rt:44:5
 loop-less : tie.Need-loop-less Inv-loop μ-loop
-loop-less c = c .turn .ensures .1 (c .before .before .before .before .before .before .before .before .before .before .before .if1 .taken)
+loop-less c = c .turn .ensures .1 .0 (c .before .before .before .before .before .before .before .before .before .before .before .if1 .taken)
 
 -- src/main.rt:44:5
 loop-again : tie.Need-loop-again Inv-loop μ-loop

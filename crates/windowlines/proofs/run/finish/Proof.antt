@@ -5,19 +5,19 @@ use mathlib.Core.Bool.{true≢false}
 use Rattle.windowlines.proofs.run.finish.Statement.{statement}
 use Rattle.windowlines.proofs.run.finish.Tie as tie
 
--- src/run.rt:180:9
+-- src/run.rt:181:9
 returns : tie.Need-returns
 returns c = (λ e. refl, λ e. absurd (true≢false (sym (c .if1 .taken) ∙ e)))
 
--- src/run.rt:182:9
+-- src/run.rt:183:9
 take-last-requires : tie.Need-take-last-requires
 take-last-requires c κs = search needs
 
--- src/run.rt:194:5
+-- src/run.rt:195:5
 put-out-requires : tie.Need-put-out-requires
 put-out-requires c κs = search needs
 
--- src/run.rt:162:1
+-- src/run.rt:163:1
 returns-2 : tie.Need-returns-2
 returns-2 c =
     let s = c .before .before .before .before .before .before .before .before .before .before .before .before in

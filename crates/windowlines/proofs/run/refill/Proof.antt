@@ -8,7 +8,7 @@ use Rattle.windowlines.proofs.run.refill.Tie as tie
 -- src/run.rt:49:9
 returns : tie.Need-returns
 returns c =
-    record { stays = λ l. refl; program = λ l. absurd (omega (arith, c .if1 .taken)); few = λ l. l; told = refl; failed = refl; turns = omega arith }
+    record { stays = λ l. refl; input-stays = λ l. refl; program = λ l. absurd (omega (arith, c .if1 .taken)); few = λ l. l; told = refl; failed = refl; came = λ l. refl; ended = λ e. absurd (omega (arith, c .if1 .taken, e)) }
 
 -- src/run.rt:51:9
 read-some-requires : tie.Need-read-some-requires
@@ -18,22 +18,26 @@ read-some-requires c κs = search needs
 returns-2 : tie.Need-returns-2
 returns-2 c = record {
   stays = λ l. absurd (omega (arith, c .before .before .before .if1 .left));
+  input-stays = λ l. absurd (omega (arith, c .before .before .before .if1 .left));
   program = λ l. refl;
   few = λ l. c .before .read-some .ensures;
   told = refl;
   failed = refl;
-  turns = omega arith;
+  came = λ l. absurd (omega (arith, l, c .if2 .taken));
+  ended = λ e. refl;
 }
 
 -- src/run.rt:44:1
 returns-3 : tie.Need-returns-3
 returns-3 c = record {
   stays = λ l. absurd (omega (arith, c .before .before .before .if1 .left));
+  input-stays = λ l. absurd (omega (arith, c .before .before .before .if1 .left));
   program = λ l. refl;
   few = λ l. c .before .read-some .ensures;
   told = refl;
   failed = refl;
-  turns = omega arith;
+  came = λ l. refl;
+  ended = λ e. absurd (omega (arith, e, c .if2 .left));
 }
 
 pub refill-spec : {M : Type 1} → statement M
