@@ -22,6 +22,12 @@ pub capacity-eq : (size e : ℕ) → IsFirst (covers size) 6 16 e → 2 ^ e ≡ 
 unfolding capacity
 capacity-eq size e i = ap (λ (k : ℕ). 2 ^ k) (first-eq (covers size) 10 6 e i)
 
+-- window_size of 64 or less
+pub mask-small : (size : ℕ) → size ≤ 64 → 63 ≡ capacity size - 1
+mask-small size h =
+    ap (λ (x : ℕ). x - 1)
+    (capacity-eq size 6 (record { from = omega arith; top = omega arith; held = λ l. le-leb size 64 h; none = λ j a b. absurd (omega arith) }))
+
 -- ---- what `u32::MAX >> leading_zeros((window_size - 1) | 63)` computes
 
 -- ones, shifted out from below

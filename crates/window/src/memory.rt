@@ -13,23 +13,17 @@ pub const PAGE_WORDS: usize = 3;
 
 pub const BLOCK_WORDS: usize = 3;
 
-// `window_size` less one; 0 of 0, which every call refuses.
-fn one_less(window_size: u32) -> u32
-    ensures { λ r. ⌜ r ≡ «window_size» - 1 ⌝ }
-{
-    if window_size == 0 {
-        return 0;
-    }
-    window_size - 1
-}
-
-// The capacity less one: the bits of a sequence that are its position. They are those up to the highest of `window_size` less one,
-// at least six.
+// The capacity less one: the bits of a sequence that are its position, those up to the highest of `window_size` less one, at least
+// six. Up to 64 it is a constant, so that a position does not wait for the header which the call before gave; `| 63` changes nothing
+// above, but without it the compiler takes both ways at once, and the position waits.
 pub fn mask(window_size: u32) -> usize
     requires { ⌜ «window_size» ≤ 65536 ⌝ }
     ensures { λ r. ⌜ r ≡ capacityOf «window_size» - 1 ⌝ }
 {
-    (u32::MAX >> u32::leading_zeros(one_less(window_size) | 63)) as usize
+    if window_size <= 64 {
+        return 63;
+    }
+    (u32::MAX >> u32::leading_zeros((window_size - 1) | 63)) as usize
 }
 
 // `window_size`, at least 64, raised to a power of two.
