@@ -1,13 +1,13 @@
 -- The capacity: what it is in words, and what the code computes. Assumes nothing.
 use mathlib.Core.Path.{_≡_, refl, sym, ap, _∙_}
 use mathlib.Core.Bool.{true≢false}
-use Prim.Native.Nat.{ℕ, suc, _+_, _-_, _*_, _/_, _%_, _^_, _≤_, _<_}
+use Prim.Native.Nat.{ℕ, suc, _-_, _*_, _%_, _^_, _≤_, _<_}
 use native.Mathlib.Omega.{arith}
 use native.Mathlib.Decide.{decLe}
-use native.Mathlib.Nat.{mod-lt, sub-add-cancel}
+use native.Mathlib.Nat.{mod-lt, one-mul, mod-eq-of-lt, sub-add-cancel}
 use borrow.Author.Tests.{leb-true, le-leb, lt-leb}
-use lib.Pow.{pow-mono, pow-add, pow-pos, ones-split, ones-lt, high, mod-mod-pow}
-use lib.Bits.{bitAnd, bitOr, and-le-l, and-le-r, and-mask, or-add-and, or-lt, or-shr, or-zero-r}
+use lib.Pow.{pow-mono, pow-lt, pow-add, mod-mod-pow}
+use lib.Bits.{bitAnd, and-mask}
 use lib.Count.{leadingZeros, leading-top}
 use Rattle.words.specs.First.{firstFrom}
 use Rattle.words.proofs.FirstLaws.{IsFirst, first-is, first-eq}
@@ -23,64 +23,26 @@ unfolding capacity
 capacity-eq size e i = ap (λ (k : ℕ). 2 ^ k) (first-eq (covers size) 10 6 e i)
 
 -- window_size of 64 or less
-pub mask-small : (size : ℕ) → size ≤ 64 → 63 ≡ capacity size - 1
-mask-small size h =
-    ap (λ (x : ℕ). x - 1)
-    (capacity-eq size 6 (record { from = omega arith; top = omega arith; held = λ l. le-leb size 64 h; none = λ j a b. absurd (omega arith) }))
+pub capacity-small : (size : ℕ) → size ≤ 64 → 64 ≡ capacity size
+capacity-small size h = capacity-eq size 6 (record { from = omega arith; top = omega arith; held = λ l. le-leb size 64 h; none = λ j a b. absurd (omega arith) })
 
--- ---- what `u32::MAX >> leading_zeros((window_size - 1) | 63)` computes
+-- a window_size above: 2 ^ (j + 1), where 2 ^ j is the highest power of two in window_size - 1
+pub capacity-large : (size j : ℕ) → 64 < size → size ≤ 65536 → 2 ^ j ≤ size - 1 → size - 1 < 2 ^ suc j → 2 ^ suc j ≡ capacity size
+capacity-large size j low high a b = capacity-eq size (suc j) (record {
+  from = elim (decLe 6 (suc j)) [ yes p ↦ p | no p ↦ absurd (omega (arith, pow-mono {i = suc j} {j = 6} (omega arith))) ];
+  top = elim (decLe (suc j) 16) [ yes p ↦ p | no p ↦ absurd (omega (arith, pow-mono {i = 16} {j = j} (omega arith))) ];
+  held = λ l. le-leb size (2 ^ suc j) (omega arith);
+  none = λ i l m. lt-leb size (2 ^ i) (omega (arith, pow-mono {i = i} {j = j} (omega arith)));
+})
 
--- ones, shifted out from below
-ones-shifted : (n k : ℕ) → (2 ^ (n + k) - 1) / 2 ^ k ≡ 2 ^ n - 1
-ones-shifted n k = ap (λ (x : ℕ). x / 2 ^ k) (ones-split n k) ∙ high (2 ^ n - 1) k (ones-lt k)
-
-module _ (size : ℕ) (high-end : size ≤ 65536) where
-  -- window_size less one, its lower six bits set
-  abbrev pub raised : ℕ
-  raised = bitOr (size - 1) 63
-
-  raised-low : 63 ≤ raised
-  raised-low = omega (arith, or-add-and (size - 1) 63, and-le-l (size - 1) 63)
-
-  raised-ge : size - 1 ≤ raised
-  raised-ge = omega (arith, or-add-and (size - 1) 63, and-le-r (size - 1) 63)
-
-  raised-lt : raised < 2 ^ 16
-  raised-lt = or-lt 16 (size - 1) 63 (omega arith) (omega arith)
-
-  raised-pages : raised / 64 ≡ (size - 1) / 64
-  raised-pages = or-shr (size - 1) 63 6 ∙ or-zero-r ((size - 1) / 64)
-
-  -- its highest bit
-  raised-top : (j : ℕ) × (leadingZeros 32 raised + suc j ≡ 32) × (2 ^ j ≤ raised) × (raised < 2 ^ suc j)
-  raised-top = leading-top 32 raised (omega (arith, raised-low)) (omega (arith, raised-lt))
-
-  pub mask-shift : leadingZeros 32 raised < 32
-  mask-shift = omega (arith, raised-top .1)
-
-  -- the exponent after it is the capacity's: above the first six bits it is that of window_size less one
-  raised-first : IsFirst (covers size) 6 16 (suc (raised-top .0))
-  raised-first = record {
-    from = elim (decLe 6 (suc j)) [ yes p ↦ p | no p ↦ absurd (omega (arith, raised-low, raised-top .3, pow-mono {i = suc j} {j = 5} (omega arith))) ];
-    top = elim (decLe (suc j) 16) [ yes p ↦ p | no p ↦ absurd (omega (arith, raised-lt, raised-top .2, pow-mono {i = 16} {j = j} (omega arith))) ];
-    held = λ l. le-leb size (2 ^ suc j) (omega (arith, raised-ge, raised-top .3));
-    none = λ i l m. lt-leb size (2 ^ i) (smaller i l (omega arith));
-  }
-    where
-      j : ℕ
-      j = raised-top .0
-
-      smaller : (i : ℕ) → 6 ≤ i → i ≤ j → 2 ^ i < size
-      smaller i l m =
-          let whole : 2 ^ i ≡ 2 ^ (i - 6) * 64 = ap (λ (k : ℕ). 2 ^ k) (sym (sub-add-cancel l)) ∙ pow-add 2 (i - 6) 6 in
-          omega (arith, whole, raised-top .2, raised-pages, pow-mono {i = i} {j = j} m, pow-pos (i - 6))
-
-  pub mask-code : (2 ^ 32 - 1) / 2 ^ leadingZeros 32 raised ≡ capacity size - 1
-  mask-code =
-      let n = suc (raised-top .0) in
-      let k = leadingZeros 32 raised in
-      let all : 32 ≡ n + k = omega (arith, raised-top .1) in
-      ap (λ (x : ℕ). (2 ^ x - 1) / 2 ^ k) all ∙ ones-shifted n k ∙ ap (λ (x : ℕ). x - 1) (capacity-eq size n raised-first)
+-- what `1 << (32 - leading_zeros(window_size - 1))` computes
+pub capacity-code : (size : ℕ) → 64 < size → size ≤ 65536 → (1 * 2 ^ (32 - leadingZeros 32 (size - 1))) % 2 ^ 64 ≡ capacity size
+capacity-code size low high =
+    let t = leading-top 32 (size - 1) (omega arith) (omega arith) in
+    let j = t .0 in
+    let e : 32 - leadingZeros 32 (size - 1) ≡ suc j = omega (arith, t .1) in
+    let c = capacity-large size j low high (t .2) (t .3) in
+    rw (e, one-mul (2 ^ suc j)) (mod-eq-of-lt (pow-lt {i = suc j} {j = 64} (omega (arith, t .1))) ∙ c)
 
 -- ---- what callers use
 pub capacity-power : (size : ℕ) → (e : ℕ) × (6 ≤ e) × (e ≤ 16) × (capacity size ≡ 2 ^ e)

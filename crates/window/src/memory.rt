@@ -13,9 +13,8 @@ pub const PAGE_WORDS: usize = 3;
 
 pub const BLOCK_WORDS: usize = 3;
 
-// The capacity less one: the bits of a sequence that are its position, those up to the highest of `window_size` less one, at least
-// six. Up to 64 it is a constant, so that a position does not wait for the header which the call before gave; `| 63` changes nothing
-// above, but without it the compiler takes both ways at once, and the position waits.
+// The capacity less one: the bits of a sequence that are its position. Up to 64 it is a constant, by a branch: so a position does not
+// wait for the header that the call before gave.
 pub fn mask(window_size: u32) -> usize
     requires { ⌜ «window_size» ≤ 65536 ⌝ }
     ensures { λ r. ⌜ r ≡ capacityOf «window_size» - 1 ⌝ }
@@ -23,7 +22,8 @@ pub fn mask(window_size: u32) -> usize
     if window_size <= 64 {
         return 63;
     }
-    (u32::MAX >> u32::leading_zeros((window_size - 1) | 63)) as usize
+    let bits = (32 - u32::leading_zeros(window_size - 1)) as usize;
+    (1 << bits) - 1
 }
 
 // `window_size`, at least 64, raised to a power of two.

@@ -1,26 +1,36 @@
--- Up to 64 the capacity is 64; above, the shift leaves the bits up to the highest of window_size - 1 (mask-code). Assumes nothing.
+-- Up to 64 the capacity is 64; above, the leading zeros of window_size - 1 give the exponent (capacity-code). Assumes nothing.
+use mathlib.Core.Path.{ap}
+use Prim.Native.Nat.{ℕ, _-_}
 use native.Mathlib.Omega.{arith}
 use borrow.Author.Needs.{needs}
-use Rattle.window.proofs.MemoryLaws.{mask-small, mask-shift, mask-code, capacity-le}
+use lib.Count.{leading-le}
+use Rattle.window.proofs.MemoryLaws.{capacity-small, capacity-code, capacity-ge}
 use Rattle.window.proofs.memory.mask.Statement.{statement}
 use Rattle.window.proofs.memory.mask.Tie as tie
 
 returns : tie.Need-returns
-returns c = mask-small _ (c .if1 .taken)
+returns c = omega (arith, capacity-small (c .before .args .window-size) (c .if1 .taken))
+
+sub-bits : tie.Need-sub-bits
+sub-bits c = search needs
+
+sub-bits-2 : tie.Need-sub-bits-2
+sub-bits-2 c = leading-le 32 _
+
+cast-bits : tie.Need-cast-bits
+cast-bits c = search needs
+
+shl-result : tie.Need-shl-result
+shl-result c = search needs
 
 sub-result : tie.Need-sub-result
-sub-result c = search needs
-
-shr-result : tie.Need-shr-result
-shr-result c = mask-shift _ (c .before .pre)
-
-cast-result : tie.Need-cast-result
-cast-result c =
+sub-result c =
     let size = c .before .args .window-size in
-    rw (mask-code size (c .before .pre)) (omega (arith, capacity-le size))
+    rw (capacity-code size (c .if1 .left) (c .before .pre)) (omega (arith, capacity-ge size))
 
 returns-2 : tie.Need-returns-2
-returns-2 c = mask-code _ (c .before .pre)
+returns-2 c = ap (λ (x : ℕ). x - 1) (capacity-code _ (c .if1 .left) (c .before .pre))
 
 pub mask-spec : {M : Type 1} → statement M
-mask-spec = tie.close (tie.spec returns sub-result shr-result cast-result returns-2)
+mask-spec =
+    tie.close (tie.spec returns sub-bits sub-bits-2 cast-bits shl-result sub-result returns-2)
