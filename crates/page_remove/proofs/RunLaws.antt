@@ -117,18 +117,18 @@ run-selected sel most small some more = (omega (arith, begins), omega arith, (om
 
 module _ (occupied : ℕ) (vs : List ℕ) (slots at limit : ℕ) (l₀ l : List ℕ) (fits : occupied < 2 ^ 64) (named : slots < 2 ^ 64)
     (sel k : ℕ) (t : DrainingDense occupied vs slots at limit l₀ l sel k) (cells : length vs ≡ 64) (room : at + limit ≤ length l₀) where
-  -- k values were written into x, and s is still selected
-  abbrev Drained : List ℕ → ℕ → ℕ → Type 0
-  Drained x s c = DrainingDense occupied vs slots at limit l₀ x s c
+  -- c values were written, which left the list x, and s is still selected
+  abbrev DrainedTo : List ℕ → ℕ → ℕ → Type 0
+  DrainedTo x s c = DrainingDense occupied vs slots at limit l₀ x s c
 
-  the-same : (x x′ : List ℕ) (s s′ c c′ : ℕ) → x ≡ x′ → s ≡ s′ → c ≡ c′ → Drained x s c → Drained x′ s′ c′
+  the-same : (x x′ : List ℕ) (s s′ c c′ : ℕ) → x ≡ x′ → s ≡ s′ → c ≡ c′ → DrainedTo x s c → DrainedTo x′ s′ c′
   the-same x x′ s s′ c c′ p q r d =
-      subst (λ (y : List ℕ). Drained y s′ c′) p (subst (λ (y : ℕ). Drained x y c′) q (subst (λ (y : ℕ). Drained x s y) r d))
+      subst (λ (y : List ℕ). DrainedTo y s′ c′) p (subst (λ (y : ℕ). DrainedTo x y c′) q (subst (λ (y : ℕ). DrainedTo x s y) r d))
 
   -- one position more of a run
   dense-next : (n : ℕ) → k + suc n ≤ limit → Run sel (suc n)
-      → Drained (paste l (at + k) (drop (lowest sel 0) vs) n) (without sel (lowest sel 0) n) (k + n)
-      → Drained (paste l (at + k) (drop (lowest sel 0) vs) (suc n)) (without sel (lowest sel 0) (suc n)) (k + suc n)
+      → DrainedTo (paste l (at + k) (drop (lowest sel 0) vs) n) (without sel (lowest sel 0) n) (k + n)
+      → DrainedTo (paste l (at + k) (drop (lowest sel 0) vs) (suc n)) (without sel (lowest sel 0) (suc n)) (k + suc n)
   dense-next n few run before =
       the-same (set x (at + (k + n)) (getD vs (lowest s 0) 0)) (paste l (at + k) (drop f vs) (suc n)) (clearBit s (lowest s 0)) (without sel f (suc n)) (k + n + 1) (k + suc n)
       written (ap (clearBit s) low ∙ without-more sel f (t .small) n top) (omega arith)
@@ -168,7 +168,7 @@ module _ (occupied : ℕ) (vs : List ℕ) (slots at limit : ℕ) (l₀ l : List 
 
   -- a run of n positions: what n turns for the lowest position leave
   pub dense-turns : (n : ℕ) → k + n ≤ limit → Run sel n
-      → Drained (paste l (at + k) (drop (lowest sel 0) vs) n) (without sel (lowest sel 0) n) (k + n)
+      → DrainedTo (paste l (at + k) (drop (lowest sel 0) vs) n) (without sel (lowest sel 0) n) (k + n)
   dense-turns zero few run =
       the-same l (paste l (at + k) (drop (lowest sel 0) vs) 0) sel (without sel (lowest sel 0) 0) k (k + 0)
       (paste-zero l (at + k) (drop (lowest sel 0) vs)) (sym (without-none sel (lowest sel 0) (t .small) (omega (arith, run .0)))) (omega arith) t

@@ -1,7 +1,7 @@
 // Bytes moved: from standard input to the line program, and its output to standard output.
-use crate::input::read_some;
-use crate::messages::tell_first;
-use crate::output::write_part;
+use crate::streams::read_some;
+use crate::streams::tell_first;
+use crate::streams::write_part;
 use line_program::Program;
 use line_program::answer::BLOCK_LIST;
 use line_program::answer::PAGE_LIST;

@@ -8,28 +8,22 @@ use borrow.Author.Needs.{needs}
 use Rattle.line_program.proofs.answer.parse_line.Statement.{statement}
 use Rattle.line_program.proofs.answer.parse_line.Tie as tie
 
--- src/input.rt:25:9
 returns : tie.Need-returns
 unfolding gathered
 returns c = sym (rw (lt-ltb _ _ (c .if1 .taken)) refl)
 
--- src/input.rt:27:11
 sub-parse : tie.Need-sub-parse
 sub-parse c = search needs
 
--- src/input.rt:27:11
 part-parse-start : tie.Need-part-parse-start
 part-parse-start c = search needs
 
--- src/input.rt:27:11
 part-parse-end : tie.Need-part-parse-end
 part-parse-end c = search needs
 
--- src/input.rt:27:5
 parse-requires : tie.Need-parse-requires
 parse-requires c κs = search needs
 
--- src/input.rt:21:1
 returns-2 : tie.Need-returns-2
 unfolding gathered
 returns-2 c =

@@ -2,38 +2,30 @@
 use borrow.Author.Needs.{needs}
 use mathlib.Core.Path.{sym}
 use mathlib.Core.Bool.{true≢false}
-use Rattle.windowlines.proofs.output.write_part.Statement.{statement}
-use Rattle.windowlines.proofs.output.write_part.Tie as tie
+use Rattle.windowlines.proofs.streams.write_part.Statement.{statement}
+use Rattle.windowlines.proofs.streams.write_part.Tie as tie
 
--- src/output.rt:13:29
 sub-write-all : tie.Need-sub-write-all
 sub-write-all c = search needs
 
--- src/output.rt:13:29
 part-write-all-start : tie.Need-part-write-all-start
 part-write-all-start c = search needs
 
--- src/output.rt:13:29
 part-write-all-end : tie.Need-part-write-all-end
 part-write-all-end c = search needs
 
--- src/output.rt:13:12
 write-all-requires : tie.Need-write-all-requires
 write-all-requires c κs = search needs
 
--- src/output.rt:14:13
 returns : tie.Need-returns
 returns c = search needs
 
--- src/output.rt:17:10
 slice-aggregate-tell : tie.Need-slice-aggregate-tell
 slice-aggregate-tell c = search needs
 
--- src/output.rt:17:5
 tell-requires : tie.Need-tell-requires
 tell-requires c κs = search needs
 
--- src/output.rt:9:1
 returns-2 : tie.Need-returns-2
 returns-2 c = λ e. absurd (true≢false (sym e))
 

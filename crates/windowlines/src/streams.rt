@@ -1,11 +1,13 @@
-// What standard error is told, a line for each message. A message that cannot be written is lost.
+// Standard input, standard output, and what standard error is told, a line for each message. A message that cannot be written is lost.
 use line_faults::Fault;
 use line_program::notes::Notes;
 ghost use mathlib.Core.Path.{_≡_};
-ghost use mathlib.Core.Bool.{_||_};
+ghost use mathlib.Core.Bool.{true, _||_};
+ghost use Prim.Native.Nat.{_≤_};
+ghost use lib.ListN.{length};
 
 // Bytes to standard error.
-pub fn tell(text: &[u8]) {
+fn tell(text: &[u8]) {
     io::write_all(2, text);
 }
 
@@ -47,5 +49,30 @@ pub fn tell_first(told: bool, notes: Notes) -> bool
         tell_fault(notes.number, fault);
         return true;
     }
+    false
+}
+
+// Reads once: how many bytes came; 0 at the end of the input or on an error, which is told.
+pub fn read_some(input: &mut [u8; 65536]) -> usize
+    ensures { λ r. ⌜ r ≤ 65536 ⌝ }
+{
+    let got = libc::read(0, input);
+    if got < 0 {
+        tell(b"windowlines: standard input could not be read, calls are lost\n");
+        return 0;
+    }
+    io::count(got, input)
+}
+
+// Writes the first `n` bytes; whether all were written, and if not, it is told.
+pub fn write_part(out: &[u8], n: usize) -> bool
+    ensures { λ r. ⌜ (r ≡ true → n ≤ length (now (out .entry))) ⌝ }
+{
+    if n <= out.len() {
+        if io::write_all(1, &out[0..n]) {
+            return true;
+        }
+    }
+    tell(b"windowlines: standard output could not be written, answers are lost\n");
     false
 }
