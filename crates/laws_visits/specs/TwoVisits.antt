@@ -1,0 +1,74 @@
+-- Request S-14 of document 02, two visits against one: its claims, said once for any kind of visit, then of calls and of the window's
+-- own definition. Statements only. Assumes nothing.
+use mathlib.Core.Path.{_≡_}
+use mathlib.Core.Bool.{Bool, true}
+use mathlib.Core.List.{List, [], _++_}
+use Prim.Native.Nat.{ℕ, _+_, _≤_}
+use lib.ListN.{length}
+use Rattle.model.specs.Calls.{release-retired, Answer, refused}
+use Rattle.model.specs.Demand3.{Entry}
+use Rattle.model.specs.Window.{Window}
+use Rattle.model.specs.Steps.{release}
+use Rattle.model.specs.Sound.{Sound}
+use Rattle.model.specs.Contract.{State, windowOf}
+use Rattle.model.specs.Heads.{Stepped}
+
+-- ys begins with xs
+pub record Begins (xs ys : List ℕ) : Type 0 where
+  pub rest : List ℕ
+  pub whole : xs ++ rest ≡ ys
+
+-- ---- the claims. `Visit u b xs v`: in state u a visit of b releases the values xs, in this order, and leaves state v
+
+module _ (S : Type 0) (Ok : S → Type 0) (Visit : S → ℕ → List ℕ → S → Type 0) where
+  -- "From one sound state, with budgets a and b whose sum is at most 256: the values released by a visit of a, then those of a visit
+  -- of b, form a beginning of what one visit of a + b releases, shorter by at most one value."
+  unfoldable pub TwoVisits : Type 0
+  TwoVisits =
+      (u v w z : S) (a b : ℕ) (xs ys zs : List ℕ) → Ok u → a + b ≤ 256
+      → Visit u a xs v → Visit v b ys w → Visit u (a + b) zs z
+      → Begins (xs ++ ys) zs × (length zs ≤ length (xs ++ ys) + 1)
+
+  -- "Up to 256, a larger budget's list always begins with a smaller one's."
+  unfoldable pub LargerBudget : Type 0
+  LargerBudget =
+      (u v w : S) (a b : ℕ) (xs ys : List ℕ) → Ok u → a ≤ b → b ≤ 256
+      → Visit u a xs v → Visit u b ys w
+      → Begins xs ys
+
+-- ---- visits by calls
+
+-- a call of release_retired with budget b that met its contract in state u, gave this answer, returned xs and left state v
+abbrev pub Released : State → ℕ → Bool → Answer → List ℕ → State → Type 0
+Released u b listed answer xs v = Stepped u (record { call = release-retired b listed; answer = answer; returned = xs }) v
+
+-- with a return list of 384 places or more
+abbrev pub CallVisit : State → ℕ → List ℕ → State → Type 0
+CallVisit u b xs v = (answer : Answer) × Released u b true answer xs v
+
+abbrev pub IsSound : State → Type 0
+IsSound u = Sound (windowOf u)
+
+-- Where a call is refused (6 for a return list that is too short or a state whose lists are, 8 for a budget above 256), nothing is
+-- released and the state stays: it is no visit, and the claims are about the calls before and after it.
+unfoldable pub RefusedVisit : Type 0
+RefusedVisit =
+    (u v : State) (b k : ℕ) (listed : Bool) (xs : List ℕ) → IsSound u
+    → Released u b listed (refused k) xs v
+    → (xs ≡ []) × (v ≡ u)
+
+-- ---- visits by the window's own definition
+
+abbrev pub WindowVisit : Window → ℕ → List ℕ → Window → Type 0
+WindowVisit w b xs v = (release b w .out ≡ xs) × (release b w .after ≡ v)
+
+-- the window of a sound state
+abbrev pub SoundWindow : Window → Type 0
+SoundWindow w = (u : State) × (windowOf u ≡ w) × IsSound u
+
+-- ---- "Show this for every sound state."
+
+pub record S-14 : Type 0 where
+  pub calls : TwoVisits State IsSound CallVisit × LargerBudget State IsSound CallVisit
+  pub refused : RefusedVisit
+  pub windows : TwoVisits Window SoundWindow WindowVisit × LargerBudget Window SoundWindow WindowVisit
