@@ -24,6 +24,8 @@ impl From<WindowHeader> for Header {
 }
 
 const SHORT_MEMORY: u32 = 6;
+const LARGE_NUMBER: u32 = 8;
+pub const LARGEST_BUDGET: u32 = 256;
 
 fn numbered(code: u32, first: u32) -> NumberedAnswer {
     NumberedAnswer {
@@ -103,6 +105,7 @@ impl Lengths {
 }
 
 /// A window over the library.
+#[derive(Clone)]
 pub struct Library {
     header: Header,
     lists: Lists,
@@ -218,12 +221,44 @@ impl Library {
             list @ 2..=3 => lengths.words[list as usize - 2] -= 1,
             _ => lengths.returned -= 1,
         }
+        self.refuses(lengths, call, host, SHORT_MEMORY)
+    }
+
+    /// The call is refused so, and nothing is written.
+    fn refuses(&mut self, lengths: Lengths, call: Call, host: bool, refusal: u32) -> Result<(), String> {
         let before = self.lists.clone();
         let step = self.step(lengths, call, host, 0);
-        if step.answer != numbered(REFUSED, SHORT_MEMORY) || step.count != 0 || step.window != self.header || self.lists != before {
-            return Err(format!("with a short list: {:?}", step.answer));
+        if step.answer != numbered(REFUSED, refusal) || step.count != 0 || step.window != self.header || self.lists != before {
+            return Err(format!("{:?}, due is refusal {refusal}, with nothing altered", step.answer));
         }
         Ok(())
+    }
+
+    /// A visit: the values that release_retired returns.
+    pub fn visit(&mut self, budget: u32, host: bool) -> Result<Vec<u32>, String> {
+        let step = self.step(self.lengths, Call::ReleaseRetired(budget), host, 0);
+        self.header = step.window;
+        match step.answer {
+            NumberedAnswer { code: RELEASED, first, second, third: 0 } if first == step.count && second <= budget => {
+                Ok(self.lists.returned[..first as usize].to_vec())
+            }
+            other => Err(format!("a visit of {budget} answers {other:?}, count {}", step.count)),
+        }
+    }
+
+    /// A visit that is refused: with a return list one place short, or with a budget that is too large.
+    pub fn refused_visit(&mut self, budget: u32, host: bool) -> Result<(), String> {
+        if budget > LARGEST_BUDGET {
+            return self.refuses(self.lengths, Call::ReleaseRetired(budget), host, LARGE_NUMBER);
+        }
+        let mut lengths = self.lengths;
+        lengths.returned -= 1;
+        self.refuses(lengths, Call::ReleaseRetired(budget), host, SHORT_MEMORY)
+    }
+
+    /// How many values are held retired.
+    pub fn held(&self) -> u32 {
+        self.header.retired_held
     }
 
     /// The call on both, compared with what the source answered and dropped.
