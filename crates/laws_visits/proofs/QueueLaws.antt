@@ -1,7 +1,7 @@
 -- The queue of a table's pages: the pages in a row, the same queue from another cursor where no page that holds a value is passed, and
 -- its first page. Assumes nothing.
 use mathlib.Core.Path.{_≡_, refl, sym, ap, _∙_}
-use mathlib.Core.Bool.{true, false}
+use mathlib.Core.Bool.{false}
 use mathlib.Core.List.{List, [], _∷_, _++_, append-nil}
 use Prim.Native.Nat.{ℕ, zero, suc, _+_, _-_, _%_, _≤_, _<_}
 use native.Mathlib.Omega.{arith}
@@ -68,16 +68,14 @@ module _ (pages : ℕ) (t : Table) where
       let upper : pagesBetween c pages t ≡ pagesBetween g pages t = between-split c g pages l k ∙ ap (λ (q : List (List ℕ)). q ++ pagesBetween g pages t) none in
       let lower : pagesBetween 0 g t ≡ pagesBetween 0 c t =
       between-split 0 c g (omega arith) l ∙ ap (λ (q : List (List ℕ)). pagesBetween 0 c t ++ q) none ∙ append-nil (pagesBetween 0 c t) in
-      λ i. upper i ++ sym lower i
+      rw (upper, lower)
 
   -- past the last page comes the first
   queue-round : queueOf pages t pages ≡ queueOf pages t 0
   queue-round =
       let last = between-none pages pages (λ h a b. absurd (omega arith)) in
       let first = between-none 0 0 (λ h a b. absurd (omega arith)) in
-      ap (λ (q : List (List ℕ)). q ++ pagesBetween 0 pages t) last
-      ∙ sym (append-nil (pagesBetween 0 pages t))
-      ∙ ap (λ (q : List (List ℕ)). pagesBetween 0 pages t ++ q) (sym first)
+      rw (last, first, append-nil (pagesBetween 0 pages t))
 
   -- the queue from the next page is that from the cursor
   pub queue-next : (c : ℕ) → c ≤ pages → nextPage pages t c < pages → queueOf pages t c ≡ queueOf pages t (nextPage pages t c)
@@ -99,7 +97,7 @@ module _ (pages : ℕ) (t : Table) where
   queue-empty c l i =
       let e : nextPage pages t c ≡ pages = omega (arith, ltb-false (nextPage pages t c) pages i, round-le (pageHolds t) pages c l) in
       let none = round-none (pageHolds t) pages c l e in
-      λ i. between-none c pages (λ h a b. none h b) i ++ between-none 0 c (λ h a b. none h (omega arith)) i
+      rw (between-none c pages (λ h a b. none h b), between-none 0 c (λ h a b. none h (omega arith)))
 
   module _ (g : ℕ) (below : g < pages) where
     -- "An emptied page moves the cursor to the next page, another keeps it": the queue is the same

@@ -1,7 +1,7 @@
 -- A release over positions is a visit to the queue of its table: it releases and costs what `visit` says, and the queue of what is
 -- left, from where the cursor then stands, is what `visit` leaves. Assumes nothing.
-use mathlib.Core.Path.{_≡_, refl, sym, ap, _∙_}
-use mathlib.Core.Bool.{true, false}
+use mathlib.Core.Path.{_≡_, refl, ap, _∙_}
+use mathlib.Core.Bool.{true}
 use mathlib.Core.List.{List, _++_}
 use Prim.Native.Nat.{ℕ, zero, suc, _+_, _-_, _*_, _≤_, _<_}
 use native.Mathlib.Omega.{arith}
@@ -15,7 +15,7 @@ use Rattle.words.proofs.FirstLaws.{round-held}
 use Rattle.model.specs.Table.{Table}
 use Rattle.model.specs.Positions.{drain, pageHolds, nextPage, cursorAfter, Released, release}
 use Rattle.model.proofs.ReleaseLaws.{cursor-le, release-stops, release-visits}
-use Rattle.laws_visits.specs.Queue.{pageValues, queued, queueOf, Visited, visited, visit}
+use Rattle.laws_visits.specs.Queue.{pageValues, queued, queueOf, Visited, visited, unitsLeft, visit}
 use Rattle.laws_visits.proofs.VisitLaws.{visit-none, visit-zero, visit-page, queued-some}
 use Rattle.laws_visits.proofs.ValueLaws.{drain-brings, drain-leaves, page-some, page-other}
 use Rattle.laws_visits.proofs.QueueLaws.{pages-same, queue-next, queue-empty, queue-cursor, others, queue-head}
@@ -40,12 +40,12 @@ queue-drained pages t g b l =
 
 -- a visit goes on with what the page left of its budget
 visit-left : (b : ℕ) (p : List ℕ) (q : List (List ℕ)) →
-    let r = visit (b - length p) q in
+    let r = visit (unitsLeft b p) q in
     visit (b - length (take b p)) (queued (drop b p) q) ≡ visited (r .out) (r .units) (queued (drop b p) (r .rest))
 visit-left b p q = elim (decLe (length p) b) [
   | yes l ↦ rw (take-all b p l, drop-of-length-le p l)
   | no l ↦
-      let none : b - length p ≡ 0 = omega arith in
+      let none : unitsLeft b p ≡ 0 = omega arith in
       let spent-all : b - length (take b p) ≡ 0 = omega (arith, length-take b p) in
       rw (none, spent-all, visit-zero q, visit-zero (queued (drop b p) q))
 ]
@@ -63,7 +63,7 @@ module _ (pages f b : ℕ) (t : Table) (c : ℕ) (l : c ≤ pages) (i : ltb (nex
   below = ltb-true g pages i
 
   abbrev s : Visited
-  s = visit (b - length p) (others pages t g below)
+  s = visit (unitsLeft b p) (others pages t g below)
 
   visits-first : visit (suc b) (queueOf pages t c) ≡ visited (take b p ++ s .out) (1 + length (take b p) + s .units) (queued (drop b p) (s .rest))
   visits-first =

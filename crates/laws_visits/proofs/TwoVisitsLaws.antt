@@ -11,12 +11,11 @@ use borrow.Author.Tests.{le-leb}
 use Rattle.words.proofs.CaseLaws.{bool}
 use Rattle.window.specs.Memory.{pageCount}
 use Rattle.model.specs.Calls.{release-retired, Answer, done, new, replaced, absent, found, pair, released, refused}
-use Rattle.model.specs.Table.{first, known, argumentRefusal}
+use Rattle.model.specs.Table.{first, argumentRefusal}
 use Rattle.model.specs.Demand3.{Entry}
 use Rattle.model.specs.Window.{Window, pagesOf}
-use Rattle.model.specs.Positions.{Positions, positions, does, step}
-use Rattle.model.specs.Steps.{release, releaseStep, unlessRefused, Effect, knownBy, windowDoes, windowStep}
-use Rattle.model.specs.Sound.{Sound}
+use Rattle.model.specs.Positions.{Positions, does, step}
+use Rattle.model.specs.Steps.{release, releaseStep, unlessRefused, knownBy, windowDoes}
 use Rattle.model.specs.Contract.{State, windowOf, lengthsFit, refusal}
 use Rattle.page_base.proofs.DecodeLaws.{header-at}
 use Rattle.laws_soundness.specs.Change.{Proper}
@@ -25,7 +24,7 @@ use Rattle.laws_soundness.proofs.RetireLaws.{proper-retiring}
 use Rattle.laws_soundness.proofs.VisitLaws.{pages-same, proper-release, release-limits}
 use Rattle.laws_refinement.specs.Seen.{positionsOf, positionsIn, SoundState}
 use Rattle.laws_refinement.proofs.VisitLaws.{release-as}
-use Rattle.laws_refinement.proofs.StateLaws.{sound-stays, call-refines}
+use Rattle.laws_refinement.proofs.StateLaws.{call-refines}
 use Rattle.laws_visits.specs.Queue.{waiting, visit}
 use Rattle.laws_visits.specs.TwoVisits.{TwoVisits, LargerBudget, Released, CallVisit, IsSound, RefusedVisit, WindowVisit, SoundWindow, S-14}
 use Rattle.laws_visits.proofs.VisitLaws.{visit-none, two-visits, larger-budget}

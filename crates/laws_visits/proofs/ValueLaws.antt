@@ -10,9 +10,8 @@ use lib.ListN.{length, take, drop}
 use borrow.Author.Tests.{ltb-true, ltb-false}
 use Rattle.model.specs.Table.{Pair, Table, sum, held, at}
 use Rattle.model.specs.Positions.{drain, inPage, pageHolds}
-use Rattle.model.proofs.SumLaws.{case, at-same, at-other}
+use Rattle.model.proofs.SumLaws.{case, sum-zero, sum-first, at-same, at-other, no-length}
 use Rattle.model.proofs.DrainLaws.{drain-free, drain-held, drain-below, drain-above}
-use Rattle.laws_soundness.proofs.SumLaws.{sum-zero}
 use Rattle.laws_visits.specs.Queue.{valuesFrom, pageValues}
 
 -- ---- by what stands at the first position
@@ -42,13 +41,8 @@ values-same (suc n) p s t h =
 
 -- ---- as many as there are pairs
 
-sum-first : (n : ℕ) (f : ℕ → ℕ) → sum (suc n) f ≡ f 0 + sum n (λ (j : ℕ). f (suc j))
-unfolding sum
-sum-first zero f = omega arith
-sum-first (suc n) f = omega (arith, sum-first n f)
-
 values-count : (n p : ℕ) (t : Table) (f : ℕ → ℕ) → ((j : ℕ) → f j ≡ held (t (p + j))) → length (valuesFrom n p t) ≡ sum n f
-values-count zero p t f h = rw (values-end p t) (sym (sum-zero f))
+values-count zero p t f h = rw (values-end p t) (sym (sum-zero 0 f (λ q l. absurd (omega arith))))
 values-count (suc n) p t f h =
     let next : (j : ℕ) → suc p + j ≡ p + suc j = λ j. omega arith in
     let start : p + 0 ≡ p = omega arith in
@@ -93,10 +87,6 @@ drain-leaves (suc n) p (suc k) t =
 page-count : (t : Table) (g : ℕ) → length (pageValues t g) ≡ inPage t g
 unfolding inPage
 page-count t g = values-count 64 (64 * g) t (λ (j : ℕ). held (t (64 * g + j))) (λ j. refl)
-
-no-length : (p : List ℕ) → length p ≡ 0 → p ≡ []
-no-length [] e = refl
-no-length (v ∷ p) e = absurd (omega arith)
 
 pub page-none : (t : Table) (g : ℕ) → pageHolds t g ≡ false → pageValues t g ≡ []
 page-none t g e = no-length (pageValues t g) (omega (arith, page-count t g, ltb-false 0 (inPage t g) e))

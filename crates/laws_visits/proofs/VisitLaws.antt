@@ -6,10 +6,10 @@ use mathlib.Core.List.{List, [], _∷_, _++_, append-nil, append-assoc}
 use Prim.Native.Nat.{ℕ, zero, suc, _+_, _-_, _≤_, _<_}
 use native.Mathlib.Omega.{arith}
 use native.Mathlib.Decide.{decLe}
-use lib.ListN.{length, getD, take, drop, length-take, length-drop, drop-of-length-le}
+use lib.ListN.{length, getD, take, drop, length-append, length-take, length-drop, drop-of-length-le}
 use lib.Seq.{take-all, take-suc, take-add}
-use Rattle.laws_visits.specs.Queue.{queued, visited, visit}
-use Rattle.laws_visits.specs.TwoVisits.{Begins}
+use Rattle.laws_visits.specs.Queue.{queued, visited, unitsLeft, visit}
+use Rattle.laws_visits.specs.TwoVisits.{Begins, AllButOne}
 
 -- ---- one page more
 
@@ -23,7 +23,7 @@ visit-zero [] = refl
 visit-zero (p ∷ q) = refl
 
 pub visit-page : (b : ℕ) (p : List ℕ) (q : List (List ℕ)) →
-    let r = visit (b - length p) q in
+    let r = visit (unitsLeft b p) q in
     visit (suc b) (p ∷ q) ≡ visited (take b p ++ r .out) (1 + length (take b p) + r .units) (queued (drop b p) (r .rest))
 unfolding visit
 visit-page b p q = refl
@@ -34,53 +34,56 @@ queued-some (v ∷ p) q l = refl
 
 -- the budget is enough for the page: it is emptied
 visit-whole : (b : ℕ) (p : List ℕ) (q : List (List ℕ)) → length p ≤ b →
-    let r = visit (b - length p) q in
+    let r = visit (unitsLeft b p) q in
     visit (suc b) (p ∷ q) ≡ visited (p ++ r .out) (1 + length p + r .units) (r .rest)
 visit-whole b p q l =
-    let r = visit (b - length p) q in
+    let r = visit (unitsLeft b p) q in
     visit-page b p q ∙ (λ i. visited (take-all b p l i ++ r .out) (1 + length (take-all b p l i) + r .units) (queued (drop-of-length-le p l i) (r .rest)))
 
 -- it is not: the visit ends at this page
 visit-part : (b : ℕ) (p : List ℕ) (q : List (List ℕ)) → b < length p → visit (suc b) (p ∷ q) ≡ visited (take b p) (1 + b) (drop b p ∷ q)
 visit-part b p q l =
-    let none : b - length p ≡ 0 = omega arith in
+    let none : unitsLeft b p ≡ 0 = omega arith in
     let cost : 1 + length (take b p) + 0 ≡ 1 + b = omega (arith, length-take b p) in
-    let ends : visit (b - length p) q ≡ visited [] 0 q = ap (λ (k : ℕ). visit k q) none ∙ visit-zero q in
+    let ends : visit (unitsLeft b p) q ≡ visited [] 0 q = ap (λ (k : ℕ). visit k q) none ∙ visit-zero q in
     visit-page b p q
     ∙ (λ i. visited (take b p ++ ends i .out) (1 + length (take b p) + ends i .units) (queued (drop b p) (ends i .rest)))
     ∙ (λ i. visited (append-nil (take b p) i) (cost i) (queued-some (drop b p) q (omega (arith, length-drop b p)) i))
 
--- ---- a beginning that lacks one value at most
+-- ---- all values but one at most
 
-pub record Nearly (xs ys : List ℕ) : Type 0 where
-  pub begins : Begins xs ys
-  pub few : length (begins .rest) ≤ 1
-
-nearly-all : (xs : List ℕ) → Nearly xs xs
-nearly-all xs = record { begins = record { rest = []; whole = append-nil xs }; few = omega arith }
+all : (xs : List ℕ) → AllButOne xs xs
+all xs = (record { rest = []; whole = append-nil xs }, omega arith)
 
 -- the same values before both
-nearly-after : (zs xs ys : List ℕ) → Nearly xs ys → Nearly (zs ++ xs) (zs ++ ys)
-nearly-after zs xs ys h =
-    let r = h .begins .rest in
-    record { begins = record { rest = r; whole = append-assoc zs xs r ∙ ap (λ (l : List ℕ). zs ++ l) (h .begins .whole) }; few = h .few }
+all-after : (zs xs ys : List ℕ) → AllButOne xs ys → AllButOne (zs ++ xs) (zs ++ ys)
+all-after zs xs ys h =
+    let r = h .0 .rest in (
+      record { rest = r; whole = append-assoc zs xs r ∙ ap (λ (l : List ℕ). zs ++ l) (h .0 .whole) },
+      omega (arith, h .1, length-append zs xs, length-append zs ys),
+    )
+
+-- one value more of a list
+all-but-last : (b : ℕ) (p : List ℕ) → b < length p → AllButOne (take b p) (take (suc b) p)
+all-but-last b p l =
+    (record { rest = getD p b 0 ∷ []; whole = sym (take-suc p b 0 l) }, omega (arith, length-take b p, length-take (suc b) p))
 
 -- ---- one unit more
 
-one-more : (b : ℕ) (q : List (List ℕ)) → Nearly (visit b q .out) (visit (suc b) q .out)
-one-more b [] = rw (visit-none b, visit-none (suc b)) (nearly-all [])
+one-more : (b : ℕ) (q : List (List ℕ)) → AllButOne (visit b q .out) (visit (suc b) q .out)
+one-more b [] = rw (visit-none b, visit-none (suc b)) (all [])
 one-more zero (p ∷ q) =
-    let none : 0 - length p ≡ 0 = omega arith in
-    rw (visit-zero (p ∷ q), visit-page 0 p q, none, visit-zero q) (nearly-all [])
+    let none : unitsLeft 0 p ≡ 0 = omega arith in
+    rw (visit-zero (p ∷ q), visit-page 0 p q, none, visit-zero q) (all [])
 one-more (suc b) (p ∷ q) = elim (decLe (length p) b) [
   | yes l ↦
-      let less : suc b - length p ≡ suc (b - length p) = omega arith in
+      let less : unitsLeft (suc b) p ≡ suc (unitsLeft b p) = omega arith in
       rw (visit-whole b p q l, visit-whole (suc b) p q (omega arith), less)
-      (nearly-after p (visit (b - length p) q .out) (visit (suc (b - length p)) q .out) (one-more (b - length p) q))
+      (all-after p (visit (unitsLeft b p) q .out) (visit (suc (unitsLeft b p)) q .out) (one-more (unitsLeft b p) q))
   | no l ↦
-      let none : suc b - length p ≡ 0 = omega arith in
+      let none : unitsLeft (suc b) p ≡ 0 = omega arith in
       rw (visit-part b p q (omega arith), visit-page (suc b) p q, none, visit-zero q, append-nil (take (suc b) p))
-      (record { begins = record { rest = getD p b 0 ∷ []; whole = sym (take-suc p b 0 (omega arith)) }; few = omega arith })
+      (all-but-last b p (omega arith))
 ]
 
 -- ---- two visits
@@ -89,40 +92,27 @@ one-more (suc b) (p ∷ q) = elim (decLe (length p) b) [
 goes-on : (a b : ℕ) (p : List ℕ) (q : List (List ℕ)) → a < length p
     → visit (suc (a + b)) (p ∷ q) .out ≡ take a p ++ visit (suc b) (drop a p ∷ q) .out
 goes-on a b p q l =
-    let left : (a + b) - length p ≡ b - length (drop a p) = omega (arith, length-drop a p) in
+    let left : unitsLeft (a + b) p ≡ unitsLeft b (drop a p) = omega (arith, length-drop a p) in
     rw (visit-page (a + b) p q, visit-page b (drop a p) q, left, take-add a b p)
-    (append-assoc (take a p) (take b (drop a p)) (visit (b - length (drop a p)) q .out))
+    (append-assoc (take a p) (take b (drop a p)) (visit (unitsLeft b (drop a p)) q .out))
 
-two-nearly : (a b : ℕ) (q : List (List ℕ)) → Nearly (visit a q .out ++ visit b (visit a q .rest) .out) (visit (a + b) q .out)
-two-nearly a b [] = rw (visit-none a, visit-none b, visit-none (a + b)) (nearly-all [])
-two-nearly zero b (p ∷ q) =
+pub two-visits : (a b : ℕ) (q : List (List ℕ)) → AllButOne (visit a q .out ++ visit b (visit a q .rest) .out) (visit (a + b) q .out)
+two-visits a b [] = rw (visit-none a, visit-none b, visit-none (a + b)) (all [])
+two-visits zero b (p ∷ q) =
     let same : 0 + b ≡ b = omega arith in
-    rw (visit-zero (p ∷ q), same) (nearly-all (visit b (p ∷ q) .out))
-two-nearly (suc a) b (p ∷ q) =
+    rw (visit-zero (p ∷ q), same) (all (visit b (p ∷ q) .out))
+two-visits (suc a) b (p ∷ q) =
     let sum : suc a + b ≡ suc (a + b) = omega arith in
     elim (decLe (length p) a) [
       | yes l ↦
-          let r = visit (a - length p) q in
-          let left : (a + b) - length p ≡ (a - length p) + b = omega arith in
+          let r = visit (unitsLeft a p) q in
+          let left : unitsLeft (a + b) p ≡ unitsLeft a p + b = omega arith in
           rw (sum, visit-whole a p q l, visit-whole (a + b) p q (omega arith), left, append-assoc p (r .out) (visit b (r .rest) .out))
-          (nearly-after p (r .out ++ visit b (r .rest) .out) (visit ((a - length p) + b) q .out) (two-nearly (a - length p) b q))
+          (all-after p (r .out ++ visit b (r .rest) .out) (visit (unitsLeft a p + b) q .out) (two-visits (unitsLeft a p) b q))
       | no l ↦
           rw (sum, visit-part a p q (omega arith), goes-on a b p q (omega arith))
-          (nearly-after (take a p) (visit b (drop a p ∷ q) .out) (visit (suc b) (drop a p ∷ q) .out) (one-more b (drop a p ∷ q)))
+          (all-after (take a p) (visit b (drop a p ∷ q) .out) (visit (suc b) (drop a p ∷ q) .out) (one-more b (drop a p ∷ q)))
     ]
-
-length-append : (xs ys : List ℕ) → length (xs ++ ys) ≡ length xs + length ys
-length-append [] ys = omega arith
-length-append (x ∷ xs) ys = omega (arith, length-append xs ys)
-
-pub two-visits : (a b : ℕ) (q : List (List ℕ)) →
-    let xs = visit a q .out ++ visit b (visit a q .rest) .out in
-    let zs = visit (a + b) q .out in
-    Begins xs zs × (length zs ≤ length xs + 1)
-two-visits a b q =
-    let xs = visit a q .out ++ visit b (visit a q .rest) .out in
-    let h = two-nearly a b q in
-    (h .begins, omega (arith, h .few, length-append xs (h .begins .rest), ap length (h .begins .whole)))
 
 -- ---- a larger budget: what is released is that of the smaller one, and of a visit of the difference after it
 

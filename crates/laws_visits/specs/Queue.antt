@@ -48,11 +48,15 @@ pub record Visited : Type 0 where
 abbrev pub visited : List ℕ → ℕ → List (List ℕ) → Visited
 visited out units rest = record { out = out; units = units; rest = rest }
 
+-- what is left of b units when they have paid for a page's values
+abbrev pub unitsLeft : ℕ → List ℕ → ℕ
+unitsLeft b p = b - length p
+
 -- "Each page inspected and each value released costs one unit": a unit for the first page, one for each of its values as far as the
--- budget goes, and the other pages with what is left
+-- budget goes, and what is left for the pages after it
 unfoldable pub visit : ℕ → List (List ℕ) → Visited
 visit b [] = visited [] 0 []
 visit zero (p ∷ q) = visited [] 0 (p ∷ q)
 visit (suc b) (p ∷ q) =
-    let r = visit (b - length p) q in
+    let r = visit (unitsLeft b p) q in
     visited (take b p ++ r .out) (1 + length (take b p) + r .units) (queued (drop b p) (r .rest))

@@ -6,7 +6,6 @@ use mathlib.Core.List.{List, [], _++_}
 use Prim.Native.Nat.{ℕ, _+_, _≤_}
 use lib.ListN.{length}
 use Rattle.model.specs.Calls.{release-retired, Answer, refused}
-use Rattle.model.specs.Demand3.{Entry}
 use Rattle.model.specs.Window.{Window}
 use Rattle.model.specs.Steps.{release}
 use Rattle.model.specs.Sound.{Sound}
@@ -18,6 +17,10 @@ pub record Begins (xs ys : List ℕ) : Type 0 where
   pub rest : List ℕ
   pub whole : xs ++ rest ≡ ys
 
+-- it does, and xs is "shorter by at most one value"
+abbrev pub AllButOne : List ℕ → List ℕ → Type 0
+AllButOne xs ys = Begins xs ys × (length ys ≤ length xs + 1)
+
 -- ---- the claims. `Visit u b xs v`: in state u a visit of b releases the values xs, in this order, and leaves state v
 
 module _ (S : Type 0) (Ok : S → Type 0) (Visit : S → ℕ → List ℕ → S → Type 0) where
@@ -27,7 +30,7 @@ module _ (S : Type 0) (Ok : S → Type 0) (Visit : S → ℕ → List ℕ → S 
   TwoVisits =
       (u v w z : S) (a b : ℕ) (xs ys zs : List ℕ) → Ok u → a + b ≤ 256
       → Visit u a xs v → Visit v b ys w → Visit u (a + b) zs z
-      → Begins (xs ++ ys) zs × (length zs ≤ length (xs ++ ys) + 1)
+      → AllButOne (xs ++ ys) zs
 
   -- "Up to 256, a larger budget's list always begins with a smaller one's."
   unfoldable pub LargerBudget : Type 0

@@ -12,7 +12,7 @@ use Rattle.model.specs.Calls.{Call, insert, exchange, remove, remove-ran
 use Rattle.model.specs.Table.{TableState, freshTable, known, argumentRefusal, Outcome, unlessRefused, tableStep, tableDoes}
 use Rattle.model.specs.Roles.{roleOf, toldOf}
 use Rattle.model.specs.Demand3.{times, copies, SamePairs, values, pairsBelow, lost, tableAfter, tableAnswers, tableEmptied, Entry, callsOf, common, answersOf, sharedOf, acceptedOf, handedBackOf, returnedOf, Visits, no-visit, visit, Head, History, begun, goes-on, stateAfter, After, Agree, Demand3}
-use Rattle.model.proofs.SumLaws.{times-append}
+use Rattle.model.proofs.SumLaws.{times-append, no-length}
 
 -- ---- the plain table does not see release_retired
 
@@ -71,10 +71,6 @@ common-first xs ys e k =
     let r = common-take k (callsOf xs) in
     let s = take-common (r .0) (callsOf ys) in
     (s .0, ap common (calls-take k xs) ∙ r .1 ∙ ap (take (r .0)) e ∙ sym (ap common (calls-take (s .0) ys) ∙ s .1))
-
-no-length : (l : List ℕ) → length l ≡ 0 → l ≡ []
-no-length [] e = refl
-no-length (x ∷ xs) e = absurd (omega arith)
 
 module _ (H : Head) where
   abbrev W : Type 0

@@ -36,6 +36,12 @@ unfolding sum
 sum-zero zero f h = refl
 sum-zero (suc n) f h = omega (arith, sum-zero n f (λ q l. h q (omega arith)), h n (omega arith))
 
+-- the first apart
+pub sum-first : (n : ℕ) (f : ℕ → ℕ) → sum (suc n) f ≡ f 0 + sum n (λ (q : ℕ). f (suc q))
+unfolding sum
+sum-first zero f = omega arith
+sum-first (suc n) f = omega (arith, sum-first n f)
+
 -- two functions that agree but at p
 pub sum-point : (n : ℕ) (f g : ℕ → ℕ) (p : ℕ) → p < n → ((q : ℕ) → q < n → (q ≡ p → ⊥) → f q ≡ g q) → sum n f + g p ≡ sum n g + f p
 unfolding sum
@@ -137,6 +143,10 @@ total-pairs (suc n) g t = case (t n) (λ e. rw e (omega (arith, total-pairs n g 
 
 pub times-pairs : (n v : ℕ) (t : Table) → times v (values (pairsBelow n t)) ≡ weight n (equals v) t
 times-pairs n v t = sym (total-times v (values (pairsBelow n t))) ∙ total-pairs n (equals v) t
+
+pub no-length : (l : List ℕ) → length l ≡ 0 → l ≡ []
+no-length [] e = refl
+no-length (x ∷ xs) e = absurd (omega arith)
 
 pub length-values : (l : List Pair) → length (values l) ≡ length l
 length-values [] = refl
