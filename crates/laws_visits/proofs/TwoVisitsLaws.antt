@@ -26,7 +26,7 @@ use Rattle.laws_refinement.specs.Seen.{positionsOf, positionsIn, SoundState}
 use Rattle.laws_refinement.proofs.VisitLaws.{release-as}
 use Rattle.laws_refinement.proofs.StateLaws.{call-refines}
 use Rattle.laws_visits.specs.Queue.{waiting, visit}
-use Rattle.laws_visits.specs.TwoVisits.{TwoVisits, LargerBudget, Released, CallVisit, IsSound, RefusedVisit, WindowVisit, SoundWindow, S-14}
+use Rattle.laws_visits.specs.TwoVisits.{TwoVisits, LargerBudget, ReleaseRetired, CallVisit, IsSound, RefusedVisit, WindowVisit, SoundWindow, S-14}
 use Rattle.laws_visits.proofs.VisitLaws.{visit-none, two-visits, larger-budget}
 use Rattle.laws_visits.proofs.ReleaseLaws.{release-as-visit}
 
@@ -82,7 +82,7 @@ fit-queue : (size : ℕ) (u : State) → SoundState size u → stateQueue u ≡ 
 fit-queue size u s = rw (s .fit, s .of-size)
 
 -- a refused call
-module _ (u v : State) (b : ℕ) (listed : Bool) (answer : Answer) (xs : List ℕ) (t : Released u b listed answer xs v) where
+module _ (u v : State) (b : ℕ) (listed : Bool) (answer : Answer) (xs : List ℕ) (t : ReleaseRetired u b listed answer xs v) where
   refused-stays : (refusal u (release-retired b listed) ≡ 0 → ⊥) → (xs ≡ []) × (v ≡ u)
   refused-stays h =
       let n = t .meets .refuses h .1 in

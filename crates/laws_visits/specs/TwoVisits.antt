@@ -21,7 +21,7 @@ pub record Begins (xs ys : List ℕ) : Type 0 where
 abbrev pub AllButOne : List ℕ → List ℕ → Type 0
 AllButOne xs ys = Begins xs ys × (length ys ≤ length xs + 1)
 
--- ---- the claims. `Visit u b xs v`: in state u a visit of b releases the values xs, in this order, and leaves state v
+-- ---- the claims; `Visit u b xs v` says that in state u a visit of b, from 0 on, releases the values xs in this order and leaves state v
 
 module _ (S : Type 0) (Ok : S → Type 0) (Visit : S → ℕ → List ℕ → S → Type 0) where
   -- "From one sound state, with budgets a and b whose sum is at most 256: the values released by a visit of a, then those of a visit
@@ -41,23 +41,24 @@ module _ (S : Type 0) (Ok : S → Type 0) (Visit : S → ℕ → List ℕ → S 
 
 -- ---- visits by calls
 
--- a call of release_retired with budget b that met its contract in state u, gave this answer, returned xs and left state v
-abbrev pub Released : State → ℕ → Bool → Answer → List ℕ → State → Type 0
-Released u b listed answer xs v = Stepped u (record { call = release-retired b listed; answer = answer; returned = xs }) v
+-- In state u a call of release_retired with budget b met its contract, gave this answer, returned the values xs and left state v;
+-- `listed` says whether its return list has 384 places.
+abbrev pub ReleaseRetired : State → ℕ → Bool → Answer → List ℕ → State → Type 0
+ReleaseRetired u b listed answer xs v = Stepped u (record { call = release-retired b listed; answer = answer; returned = xs }) v
 
--- with a return list of 384 places or more
+-- with a return list that is long enough; where the lists of u itself are too short each call is refused, and returns nothing
 abbrev pub CallVisit : State → ℕ → List ℕ → State → Type 0
-CallVisit u b xs v = (answer : Answer) × Released u b true answer xs v
+CallVisit u b xs v = (answer : Answer) × ReleaseRetired u b true answer xs v
 
 abbrev pub IsSound : State → Type 0
 IsSound u = Sound (windowOf u)
 
--- Where a call is refused (6 for a return list that is too short or a state whose lists are, 8 for a budget above 256), nothing is
--- released and the state stays: it is no visit, and the claims are about the calls before and after it.
+-- A call that is refused, 6 for its return list or 8 for a budget above 256, returns nothing and leaves the state. So the claims hold
+-- of calls between which others were refused, and say nothing of a budget that was refused.
 unfoldable pub RefusedVisit : Type 0
 RefusedVisit =
     (u v : State) (b k : ℕ) (listed : Bool) (xs : List ℕ) → IsSound u
-    → Released u b listed (refused k) xs v
+    → ReleaseRetired u b listed (refused k) xs v
     → (xs ≡ []) × (v ≡ u)
 
 -- ---- visits by the window's own definition
