@@ -19,6 +19,7 @@ mod declared;
 mod library;
 #[path = "../../oracle/src/line.rs"]
 mod line;
+mod program;
 #[allow(dead_code)]
 #[path = "../../oracle/src/reference.rs"]
 mod reference;
@@ -33,9 +34,11 @@ use damage::damaged;
 use declared::{packet_window_check, NumberedAnswer, DONE, REFUSED};
 use library::Library;
 use line::Call;
+use program::program;
 use reference::{call_and_drops, fresh, Window};
 use soundness::{Clause, State, CLAUSES};
 use std::collections::BTreeMap;
+use std::ops::RangeInclusive;
 use std::process::ExitCode;
 
 #[derive(Default)]
@@ -143,14 +146,10 @@ fn list(seed: u64, calls: u32, counts: &mut Counts) -> Result<(), String> {
     Ok(())
 }
 
-fn run(arguments: &[String]) -> Result<String, String> {
-    let number = |at: usize| arguments.get(at).and_then(|word| word.parse::<u64>().ok());
-    let (Some(first), Some(last), Some(calls)) = (number(0), number(1), number(2)) else {
-        return Err("usage: check FIRST LAST CALLS".to_string());
-    };
+fn run(seeds: RangeInclusive<u64>, calls: u32) -> Result<String, String> {
     let mut counts = Counts::default();
-    for seed in first..=last {
-        list(seed, calls as u32, &mut counts)?;
+    for seed in seeds {
+        list(seed, calls, &mut counts)?;
     }
     let Counts { sound, unsound, random, alone } = counts;
     if let Some(clause) = CLAUSES.iter().find(|clause| !alone.contains_key(clause)) {
@@ -161,15 +160,5 @@ fn run(arguments: &[String]) -> Result<String, String> {
 }
 
 fn main() -> ExitCode {
-    let arguments: Vec<String> = std::env::args().skip(1).collect();
-    match run(&arguments) {
-        Ok(said) => {
-            println!("{said}");
-            ExitCode::SUCCESS
-        }
-        Err(why) => {
-            println!("{why}");
-            ExitCode::FAILURE
-        }
-    }
+    program(|seeds, calls, _| run(seeds, calls))
 }

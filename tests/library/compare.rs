@@ -19,6 +19,7 @@ mod declared;
 mod library;
 #[path = "../../oracle/src/line.rs"]
 mod line;
+mod program;
 #[path = "../../oracle/src/reference.rs"]
 mod reference;
 #[path = "../../oracle/src/value.rs"]
@@ -29,7 +30,9 @@ mod window;
 use calls::{Generator, Item, Options, Random};
 use library::{has_host_form, Library};
 use line::Call;
+use program::program;
 use reference::{call_and_drops, fresh, Answer, Window};
+use std::ops::RangeInclusive;
 use std::process::ExitCode;
 
 #[derive(Default)]
@@ -123,19 +126,10 @@ fn list(seed: u64, calls: u32, options: Options, counts: &mut Counts) -> Result<
     Ok(())
 }
 
-fn run(arguments: &[String]) -> Result<String, String> {
-    let number = |at: usize| arguments.get(at).and_then(|word| word.parse::<u64>().ok());
-    let (Some(first), Some(last), Some(calls)) = (number(0), number(1), number(2)) else {
-        return Err("usage: compare FIRST LAST CALLS [--large|--small]".to_string());
-    };
-    let options = Options {
-        large: arguments.iter().any(|word| word == "--large"),
-        small: arguments.iter().any(|word| word == "--small"),
-        clean: true,
-    };
+fn run(seeds: RangeInclusive<u64>, calls: u32, options: Options) -> Result<String, String> {
     let mut counts = Counts::default();
-    for seed in first..=last {
-        list(seed, calls as u32, options, &mut counts)?;
+    for seed in seeds {
+        list(seed, calls, options, &mut counts)?;
     }
     let Counts { compared, hosted, refused, strangers } = counts;
     if hosted == 0 || refused == 0 || strangers == 0 {
@@ -145,15 +139,5 @@ fn run(arguments: &[String]) -> Result<String, String> {
 }
 
 fn main() -> ExitCode {
-    let arguments: Vec<String> = std::env::args().skip(1).collect();
-    match run(&arguments) {
-        Ok(said) => {
-            println!("{said}");
-            ExitCode::SUCCESS
-        }
-        Err(why) => {
-            println!("{why}");
-            ExitCode::FAILURE
-        }
-    }
+    program(run)
 }
