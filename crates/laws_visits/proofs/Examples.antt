@@ -18,7 +18,7 @@ use Rattle.model.specs.Steps.{noteNonempty, splitBlock, releasePage, nextRetire
 use Rattle.laws_refinement.specs.Seen.{positionsOf}
 use Rattle.laws_visits.specs.Queue.{valuesFrom, pagesFrom, queueOf, waiting, visited, visit}
 
--- the numbers from k up to e
+-- the numbers from k up to e, without e
 abbrev upwards : ℕ → ℕ → List ℕ
 upwards k zero = []
 upwards k (suc n) = k ∷ upwards (suc k) n

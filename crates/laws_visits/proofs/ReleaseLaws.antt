@@ -52,7 +52,7 @@ visit-left b p q = elim (decLe (length p) b) [
 
 -- ---- the whole release
 
-module _ (pages f b : ℕ) (t : Table) (c : ℕ) (l : c ≤ pages) (i : ltb (nextPage pages t c) pages ≡ true) where
+module _ (pages b : ℕ) (t : Table) (c : ℕ) (l : c ≤ pages) (i : ltb (nextPage pages t c) pages ≡ true) where
   abbrev g : ℕ
   g = nextPage pages t c
 
@@ -65,6 +65,7 @@ module _ (pages f b : ℕ) (t : Table) (c : ℕ) (l : c ≤ pages) (i : ltb (nex
   abbrev s : Visited
   s = visit (unitsLeft b p) (others pages t g below)
 
+  -- the release inspects the first page of the queue
   visits-first : visit (suc b) (queueOf pages t c) ≡ visited (take b p ++ s .out) (1 + length (take b p) + s .units) (queued (drop b p) (s .rest))
   visits-first =
       ap (visit (suc b))
@@ -72,6 +73,7 @@ module _ (pages f b : ℕ) (t : Table) (c : ℕ) (l : c ≤ pages) (i : ltb (nex
       ∙ queued-some p (others pages t g below) (page-some t g (round-held (pageHolds t) pages c l below)))
       ∙ visit-page b p (others pages t g below)
 
+  -- and goes on with what it left of the queue and of the budget
   visits-next : let d = drain 64 (64 * g) b t in
       visit (b - length (d .out)) (queueOf pages (d .left) (cursorAfter pages (d .left) g)) ≡ visited (s .out) (s .units) (queued (drop b p) (s .rest))
   visits-next =
@@ -87,8 +89,8 @@ release-as-visit pages (suc f) (suc b) t c l h =
     (λ i.
     let x = nextPage pages t c in
     let d = drain 64 (64 * x) b t in
-    let y = visits-first pages f b t c l i in
-    let z = visits-next pages f b t c l i in
+    let y = visits-first pages b t c l i in
+    let z = visits-next pages b t c l i in
     let r = release-as-visit pages f (b - length (d .out)) (d .left) (cursorAfter pages (d .left) x) (cursor-le pages (d .left) x (ltb-true x pages i)) (omega arith) in
     let o = drain-brings 64 (64 * x) b t in
     rw (release-visits pages f b t c i, y) (record {

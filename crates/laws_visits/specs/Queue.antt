@@ -22,7 +22,7 @@ abbrev pub queued : List ℕ → List (List ℕ) → List (List ℕ)
 queued [] q = q
 queued (v ∷ p) q = (v ∷ p) ∷ q
 
--- the queue of the pages from a up to e
+-- the queue of the n pages from g upwards, and of the pages from a up to e
 unfoldable pub pagesFrom : ℕ → ℕ → Table → List (List ℕ)
 pagesFrom zero g t = []
 pagesFrom (suc n) g t = queued (pageValues t g) (pagesFrom n (suc g) t)
@@ -34,6 +34,7 @@ pagesBetween a e t = pagesFrom (e - a) a t
 abbrev pub queueOf : ℕ → Table → ℕ → List (List ℕ)
 queueOf pages t cursor = pagesBetween cursor pages t ++ pagesBetween 0 cursor t
 
+-- what waits at a window's positions
 abbrev pub waiting : ℕ → Positions → List (List ℕ)
 waiting pages x = queueOf pages (x .retired) (x .cursor)
 
