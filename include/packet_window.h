@@ -319,9 +319,9 @@ packet_window_step packet_window_remove_range(
 /*
  * Hands retired values back, within a budget of 0 to 256 units: one unit for each page inspected and one for each value. Calls whose
  * budgets' halves, rounded down, add up to at least retired_held leave none retired, if no other call comes between.
- * A visit may be split: a call with budget a and then one with budget b, a + b at most 256 and no other call between, hand back the values
- * that one call with a + b would, in its order, save perhaps its last one, which stays held. A larger budget hands back what a smaller
- * one would, in its order, and then perhaps more.
+ * A budget may be split: a call with a and then one with b, a + b at most 256 and no other call between, hand back the values that one
+ * call with a + b would, in its order, save perhaps its last one, which stays held. A larger budget hands back what a smaller one would,
+ * in its order, and then perhaps more.
  * Writes pages, blocks, returned.
  * Answers: PACKET_WINDOW_RELEASED with the number of values and the units used; count is that number of values. Refused: 6, 8.
  */

@@ -261,6 +261,25 @@ impl Library {
         self.header.retired_held
     }
 
+    pub fn page_count(&self) -> u32 {
+        self.lengths.cells[0] as u32 / 64
+    }
+
+    /// The same window with its release cursor at this page.
+    pub fn with_cursor(&self, page: u32) -> Self {
+        let mut moved = self.clone();
+        moved.header.release_cursor = page;
+        moved
+    }
+
+    /// Whether check says that the state is sound.
+    pub fn is_sound(&mut self) -> bool {
+        let (w, Lengths { cells: [sl, vl], words: [pl, bl], .. }) = (self.header, self.lengths);
+        let Lists { sequences: s, values: v, pages: p, blocks: b, .. } = &mut self.lists;
+        let (s, v, p, b) = (s.as_mut_ptr(), v.as_mut_ptr(), p.as_mut_ptr(), b.as_mut_ptr());
+        unsafe { packet_window_check(w, s, sl, v, vl, p, pl, b, bl) }.answer == numbered(DONE, 0)
+    }
+
     /// The call on both, compared with what the source answered and dropped.
     pub fn call(&mut self, call: Call, host: bool, answer: &Answer, dropped: &[u32]) -> Result<(), String> {
         if let Answer::Pairs(pairs) = answer {

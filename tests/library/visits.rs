@@ -3,7 +3,8 @@
 //! `visits FIRST LAST CALLS [--large|--small]`: one list of calls for each seed, made on both. Where values are held retired after a
 //! call, copies of the library's window are visited: what a visit of a returns and then a visit of b begins what one visit of a + b
 //! returns, and is one value shorter at most; what a smaller budget returns begins what a larger one returns; and a visit that is
-//! refused alters nothing. On the source, of which there is no copy, now and then by making the list of calls again.
+//! refused alters nothing. Half of the copies have their release cursor at any page, which no call need have reached; check must say
+//! that they are sound. On the source, of which there is no copy, now and then by making the list of calls again.
 
 /// The source's work counters stay out.
 macro_rules! count_work {
@@ -82,6 +83,16 @@ fn larger_budget(visits: Visits, smaller: u32, larger: u32) -> Result<bool, Stri
     Ok(many.len() > few.len())
 }
 
+/// Visits to a copy of the library's window.
+fn library_visits(library: &Library, budgets: &[u32], host: bool) -> Result<Vec<u32>, String> {
+    let mut copy = library.clone();
+    let mut values = Vec::new();
+    for &budget in budgets {
+        values.extend(copy.visit(budget, host)?);
+    }
+    Ok(values)
+}
+
 /// A window on both, and the calls that made it.
 struct Both {
     made: [u32; 3],
@@ -96,16 +107,6 @@ impl Both {
         self.library.call(call, host, &answer, &dropped)?;
         self.calls.push(call);
         Ok(())
-    }
-
-    /// Visits to a copy of the library's window.
-    fn library_visits(&self, budgets: &[u32], host: bool) -> Result<Vec<u32>, String> {
-        let mut copy = self.library.clone();
-        let mut values = Vec::new();
-        for &budget in budgets {
-            values.extend(copy.visit(budget, host)?);
-        }
-        Ok(values)
     }
 
     /// Visits to the source's window, made again.
@@ -126,27 +127,34 @@ impl Both {
     }
 
     fn compare(&self, random: &mut Random, counts: &mut Counts) -> Result<(), String> {
-        let host = random.percent(50);
-        let visits: Visits = &|budgets| self.library_visits(budgets, host);
+        let (host, moved) = (random.percent(50), random.percent(50));
+        let mut library = if moved { self.library.with_cursor(random.below(self.library.page_count())) } else { self.library.clone() };
+        if moved && !library.is_sound() {
+            return Err("with another cursor the state is not sound".to_string());
+        }
+        let visits: Visits = &|budgets| library_visits(&library, budgets, host);
         let sum = budget(random);
         let a = random.between(0, sum);
         let (two, one) = two_against_one(visits, a, sum - a)?;
         counts.pairs += 1;
         counts.missing += u64::from(one.len() > two.len());
         let (x, y) = (budget(random), budget(random));
-        counts.longer += u64::from(larger_budget(visits, x.min(y), x.max(y))?);
-        counts.larger += 1;
+        let (smaller, larger) = (x.min(y), x.max(y));
+        if smaller < larger {
+            counts.longer += u64::from(larger_budget(visits, smaller, larger)?);
+            counts.larger += 1;
+        }
         if random.percent(10) {
             let refused = random.pick(&[a, LARGEST_BUDGET + 1, u32::MAX]);
-            self.library.clone().refused_visit(refused, host)?;
+            library.refused_visit(refused, host)?;
             counts.refused += 1;
         }
-        if random.percent(2) {
+        if !moved && random.percent(4) {
             let visits: Visits = &|budgets| self.source_visits(budgets);
             if two_against_one(visits, a, sum - a)? != (two, one) {
                 return Err(format!("visits of {a} and {} return other values than the source's", sum - a));
             }
-            larger_budget(visits, x.min(y), x.max(y))?;
+            larger_budget(visits, smaller, larger)?;
             counts.sources += 1;
         }
         Ok(())

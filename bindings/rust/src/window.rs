@@ -156,9 +156,9 @@ impl<'m> Window<'m> {
 
     /// Hands retired values back, within a budget of 0 to 256 units: one for each page inspected and one for each value.
     ///
-    /// A visit may be split: budgets a and then b, a + b at most 256 and no other call between, hand back the values that a + b
-    /// would, in its order, save perhaps its last one, which stays held. A larger budget hands back what a smaller one would, in its
-    /// order, and then perhaps more.
+    /// A budget may be split: a and then b, a + b at most 256 and no other call between, hand back the values that a + b would, in
+    /// its order, save perhaps its last one, which stays held. A larger budget hands back what a smaller one would, in its order,
+    /// and then perhaps more.
     ///
     /// Refused: `Budget`.
     pub fn release_retired(&mut self, budget: u32) -> Outcome<'_, Released> {

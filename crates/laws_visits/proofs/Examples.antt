@@ -4,47 +4,35 @@ use mathlib.Core.Path.{_≡_, refl}
 use mathlib.Core.Bool.{true, false}
 use mathlib.Core.Option.{some}
 use mathlib.Core.List.{List, [], _∷_, _++_}
-use Prim.Native.Nat.{ℕ, zero, suc, _-_}
-use lib.ListN.{replicate}
+use Prim.Native.Nat.{ℕ, _-_}
 use Rattle.words.specs.First.{firstFrom, firstRound}
 use Rattle.words.specs.Word.{bitAt, withBit, countBelow, span, wordBelow, lowest}
-use Rattle.window.specs.Memory.{memory, capacity}
+use Rattle.window.specs.Memory.{capacity}
 use Rattle.window.specs.New.{fresh as freshHeader}
-use Rattle.model.specs.Calls.{Call, insert, clear, release-retired}
+use Rattle.model.specs.Calls.{clear, release-retired, refused}
 use Rattle.model.specs.Table.{Table, pairOf, fresh, at, sum}
 use Rattle.model.specs.Window.{Window, freshWindow, cellOf}
 use Rattle.model.specs.Pages.{freeCell, promoted, nthSet, packed, insertPage, drainPage}
-use Rattle.model.specs.Steps.{noteNonempty, splitBlock, releasePage, nextRetired, releaseUnits, revive, retireAll, insertStep, clearStep, releaseStep, windowStep, windowDoes}
+use Rattle.model.specs.Steps.{noteNonempty, splitBlock, releasePage, nextRetired, releaseUnits, revive, retireAll, insertStep, clearStep, releaseStep, effect, windowStep, windowDoes}
+use Rattle.model.specs.Runs.{afterNew, after, from, insertsFrom}
 use Rattle.laws_refinement.specs.Seen.{positionsOf}
 use Rattle.laws_visits.specs.Queue.{valuesFrom, pagesFrom, queueOf, waiting, visited, visit}
 
 -- the numbers from k up to e, without e
-abbrev upwards : ℕ → ℕ → List ℕ
-upwards k zero = []
-upwards k (suc n) = k ∷ upwards (suc k) n
-
 abbrev upTo : ℕ → ℕ → List ℕ
-upTo k e = upwards k (e - k)
+upTo k e = from k (e - k)
 
 -- ---- by calls
-
-abbrev after : Window → List Call → Window
-after w [] = w
-after w (c ∷ cs) = after (windowStep w c .after) cs
 
 -- the values that calls of release_retired return one after another, each with this budget
 abbrev visits : Window → List ℕ → List (List ℕ)
 visits w [] = []
 visits w (b ∷ bs) = let e = windowStep w (release-retired b true) in e .returned ∷ visits (e .after) bs
 
-abbrev inserts : List ℕ → List Call
-inserts [] = []
-inserts (s ∷ ss) = insert s s true ∷ inserts ss
-
 -- document 01's case: window 512, N 8, sequences 0..511 in, each with its own number as value, clear: 252 are released. Page 3 holds
 -- 252..255 still, and pages 4 to 7 all of theirs.
 abbrev cleared : Window
-cleared = after (freshWindow 512 8 0 (memory (replicate 512 0) (replicate 512 0) (replicate 24 0) (replicate 3 0))) (inserts (upTo 0 512) ++ clear true ∷ [])
+cleared = after (afterNew 512 8 0) (insertsFrom 0 512 ++ clear true ∷ [])
 
 -- page 3 half released
 abbrev half : Window
@@ -67,13 +55,14 @@ by-calls :
 unfolding firstFrom firstRound bitAt withBit countBelow span wordBelow lowest capacity freshHeader freshWindow sum cellOf freeCell promoted nthSet packed insertPage drainPage noteNonempty splitBlock releasePage nextRetired releaseUnits revive retireAll insertStep clearStep releaseStep windowDoes
 by-calls = (refl, refl, refl, refl, refl, refl, refl, refl, refl, refl, refl, refl, refl, refl, refl, refl, refl)
 
--- a visit that is refused, here for its return list, returns nothing and leaves the window
-refused-one : windowStep cleared (release-retired 4 false) .after ≡ cleared
-refused-one = refl
+-- refused calls, for the return list and for the budget, return nothing and leave the window
+refused-calls :
+    (windowStep cleared (release-retired 4 false) ≡ effect cleared (refused 6) []) × (windowStep cleared (release-retired 257 true) ≡ effect cleared (refused 8) [])
+refused-calls = (refl, refl)
 
 -- ---- the queue
 
--- what waits in that window
+-- what waits where page 3 is half released
 by-queue : waiting 8 (positionsOf half) ≡ upTo 254 256 ∷ upTo 256 320 ∷ upTo 320 384 ∷ upTo 384 448 ∷ upTo 448 512 ∷ []
 unfolding valuesFrom pagesFrom firstFrom firstRound bitAt withBit countBelow span wordBelow lowest capacity freshHeader freshWindow sum cellOf freeCell promoted nthSet packed insertPage drainPage noteNonempty splitBlock releasePage nextRetired releaseUnits revive retireAll insertStep clearStep releaseStep windowDoes
 by-queue = refl

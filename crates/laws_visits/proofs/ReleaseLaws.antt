@@ -5,10 +5,8 @@ use mathlib.Core.Bool.{true}
 use mathlib.Core.List.{List, _++_}
 use Prim.Native.Nat.{ℕ, zero, suc, _+_, _-_, _*_, _≤_, _<_}
 use native.Mathlib.Omega.{arith}
-use native.Mathlib.Decide.{decLe}
 use lib.Dec.{ltb}
-use lib.ListN.{length, take, drop, length-take, drop-of-length-le}
-use lib.Seq.{take-all}
+use lib.ListN.{length, take, drop}
 use borrow.Author.Tests.{ltb-true}
 use Rattle.words.proofs.CaseLaws.{bool}
 use Rattle.words.proofs.FirstLaws.{round-held}
@@ -16,7 +14,7 @@ use Rattle.model.specs.Table.{Table}
 use Rattle.model.specs.Positions.{drain, pageHolds, nextPage, cursorAfter, Released, release}
 use Rattle.model.proofs.ReleaseLaws.{cursor-le, release-stops, release-visits}
 use Rattle.laws_visits.specs.Queue.{pageValues, queued, queueOf, Visited, visited, unitsLeft, visit}
-use Rattle.laws_visits.proofs.VisitLaws.{visit-none, visit-zero, visit-page, queued-some}
+use Rattle.laws_visits.proofs.VisitLaws.{visit-none, visit-zero, visit-page, queued-some, visit-left}
 use Rattle.laws_visits.proofs.ValueLaws.{drain-brings, drain-leaves, page-some, page-other}
 use Rattle.laws_visits.proofs.QueueLaws.{pages-same, queue-next, queue-empty, queue-cursor, others, queue-head}
 
@@ -37,18 +35,6 @@ queue-drained pages t g b l =
     let after = pages-same (pages - suc g) (suc g) left t (λ h x y. page-other g b t h (λ e. omega arith)) in
     let before = pages-same (g - 0) 0 left t (λ h x y. page-other g b t h (λ e. omega arith)) in
     queue-cursor pages left g l ∙ queue-head pages left g l ∙ (λ i. queued (drain-leaves 64 (64 * g) b t i) (after i ++ before i))
-
--- a visit goes on with what the page left of its budget
-visit-left : (b : ℕ) (p : List ℕ) (q : List (List ℕ)) →
-    let r = visit (unitsLeft b p) q in
-    visit (b - length (take b p)) (queued (drop b p) q) ≡ visited (r .out) (r .units) (queued (drop b p) (r .rest))
-visit-left b p q = elim (decLe (length p) b) [
-  | yes l ↦ rw (take-all b p l, drop-of-length-le p l)
-  | no l ↦
-      let none : unitsLeft b p ≡ 0 = omega arith in
-      let spent-all : b - length (take b p) ≡ 0 = omega (arith, length-take b p) in
-      rw (none, spent-all, visit-zero q, visit-zero (queued (drop b p) q))
-]
 
 -- ---- the whole release
 

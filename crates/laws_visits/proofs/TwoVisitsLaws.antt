@@ -1,21 +1,21 @@
 -- Request S-14 holds: of any kind of visit that does to a queue what `visit` does, and so of calls on sound states and of their windows.
 -- Assumes nothing.
 use mathlib.Core.Path.{_≡_, refl, sym, ap, subst, _∙_}
-use mathlib.Core.Bool.{Bool, true, false, cond, true≢false}
+use mathlib.Core.Bool.{Bool, true, false, cond, true≢false, _&&_}
 use mathlib.Core.List.{List, []}
 use Prim.Native.Nat.{ℕ, _+_, _≤_}
 use native.Mathlib.Omega.{arith}
-use native.Mathlib.Decide.{ℕ-discrete}
+use lib.Dec.{leb}
 use lib.ListN.{take}
 use borrow.Author.Tests.{le-leb}
 use Rattle.words.proofs.CaseLaws.{bool}
 use Rattle.window.specs.Memory.{pageCount}
-use Rattle.model.specs.Calls.{release-retired, Answer, done, new, replaced, absent, found, pair, released, refused}
-use Rattle.model.specs.Table.{first, argumentRefusal}
+use Rattle.model.specs.Calls.{release-retired, Answer}
+use Rattle.model.specs.Table.{first}
 use Rattle.model.specs.Demand3.{Entry}
 use Rattle.model.specs.Window.{Window, pagesOf}
 use Rattle.model.specs.Positions.{Positions, does, step}
-use Rattle.model.specs.Steps.{release, releaseStep, unlessRefused, knownBy, windowDoes}
+use Rattle.model.specs.Steps.{release}
 use Rattle.model.specs.Contract.{State, windowOf, lengthsFit, refusal}
 use Rattle.page_base.proofs.DecodeLaws.{header-at}
 use Rattle.laws_soundness.specs.Change.{Proper}
@@ -88,9 +88,9 @@ module _ (u v : State) (b : ℕ) (listed : Bool) (answer : Answer) (xs : List �
       let n = t .meets .refuses h .1 in
       (sym (t .returned) ∙ ap (λ (k : ℕ). take k (t .left .list)) (n .count), sym (t .state) ∙ n .state)
 
--- an accepted budget is taken at the positions as a release
-taken : (size b : ℕ) (x : Positions) → b ≤ 256 → step size x (release-retired b true) ≡ does size x (release-retired b true)
-taken size b x l = rw (le-leb b 256 l)
+-- a budget of at most 256 is not refused
+not-refused : (size b : ℕ) (x : Positions) → b ≤ 256 → step size x (release-retired b true) ≡ does size x (release-retired b true)
+not-refused size b x l = rw (le-leb b 256 l)
 
 call-queues : Queues State IsSound CallVisit stateQueue
 unfolding does
@@ -107,9 +107,9 @@ call-queues u v b xs ok l x =
     let here = fit-queue size u s in
     record {
       ok = r .ok .sound;
-      out = r .returned ∙ ap (λ e. e .returned) (taken size b p l) ∙ q .out ∙ ap (λ (n : List (List ℕ)). visit b n .out) (sym here);
+      out = r .returned ∙ ap (λ e. e .returned) (not-refused size b p l) ∙ q .out ∙ ap (λ (n : List (List ℕ)). visit b n .out) (sym here);
       rest =
-          fit-queue size v (r .ok) ∙ ap (waiting (pageCount size)) (r .after ∙ ap (λ e. e .after) (taken size b p l)) ∙ q .rest
+          fit-queue size v (r .ok) ∙ ap (waiting (pageCount size)) (r .after ∙ ap (λ e. e .after) (not-refused size b p l)) ∙ q .rest
           ∙ ap (λ (n : List (List ℕ)). visit b n .rest) (sym here);
     })
     (λ short.
@@ -127,33 +127,19 @@ call-queues u v b xs ok l x =
 
 -- ---- refused calls
 
-abbrev isRefused : Answer → Bool
-isRefused done = false
-isRefused new = false
-isRefused (replaced v) = false
-isRefused absent = false
-isRefused (found n) = false
-isRefused (pair s v next) = false
-isRefused (released values units) = false
-isRefused (refused k) = true
-
--- no refusal comes first where none is told
-no-refusal : (fit : Bool) (k : ℕ) → first 6 fit k ≡ 0 → k ≡ 0
-no-refusal true k e = e
-no-refusal false k e = absurd (omega arith)
+-- what is refused for its arguments is refused
+refused-first : (fit listed taken : Bool) → listed && taken ≡ false → first 6 fit (first 6 listed (first 8 taken 0)) ≡ 0 → ⊥
+refused-first true true true e z = true≢false e
+refused-first true true false e z = omega arith
+refused-first true false taken e z = omega arith
+refused-first false listed taken e z = omega arith
 
 refused-visit : RefusedVisit
-unfolding RefusedVisit windowDoes releaseStep
-refused-visit u v b k listed xs ok t = elim (ℕ-discrete (refusal u (release-retired b listed)) 0) [
-  | no z ↦ refused-stays u v b listed (refused k) xs t z
-  | yes z ↦
-      let c = release-retired b listed in
-      let w = windowOf u in
-      let none : argumentRefusal (knownBy (w .header)) c ≡ 0 = no-refusal (lengthsFit u) (argumentRefusal (knownBy (u .header)) c) z in
-      let same : refused k ≡ windowDoes w c .answer =
-      sym (t .answer) ∙ t .meets .sound z ok .answer ∙ ap (λ (n : ℕ). unlessRefused n w (windowDoes w c) .answer) none in
-      absurd (true≢false (ap isRefused same))
-]
+unfolding RefusedVisit
+refused-visit u v b listed answer xs e t =
+    let h = refused-first (lengthsFit u) listed (leb b 256) e in
+    let n = refused-stays u v b listed answer xs t h in
+    (sym (t .answer) ∙ t .meets .refuses h .0, n .0, n .1)
 
 -- ---- request S-14
 

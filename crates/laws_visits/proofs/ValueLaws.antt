@@ -54,9 +54,9 @@ values-count (suc n) p t f h =
 
 -- ---- what a drain brings out, and what it leaves
 
--- the first of k values that a drain takes is not there for the rest of it
-taken : (n p : ℕ) (t : Table) → valuesFrom n (suc p) (at t p none) ≡ valuesFrom n (suc p) t
-taken n p t = values-same n (suc p) (at t p none) t (λ q a b. at-other t p none q (λ d. omega arith))
+-- what is taken out at p changes nothing after it
+values-after : (n p : ℕ) (t : Table) → valuesFrom n (suc p) (at t p none) ≡ valuesFrom n (suc p) t
+values-after n p t = values-same n (suc p) (at t p none) t (λ q a b. at-other t p none q (λ d. omega arith))
 
 pub drain-brings : (n p k : ℕ) (t : Table) → drain n p k t .out ≡ take k (valuesFrom n p t)
 unfolding drain
@@ -67,7 +67,7 @@ drain-brings (suc n) p (suc k) t =
     case (t p)
     (λ e. rw (drain-free n p k t e, values-free n p t e) (drain-brings n (suc p) (suc k) t))
     (λ x e. rw (drain-held n p k t x e, values-held n p t x e)
-    (ap (λ (l : List ℕ). x .value ∷ l) (drain-brings n (suc p) k (at t p none) ∙ ap (take k) (taken n p t))))
+    (ap (λ (l : List ℕ). x .value ∷ l) (drain-brings n (suc p) k (at t p none) ∙ ap (take k) (values-after n p t))))
 
 pub drain-leaves : (n p k : ℕ) (t : Table) → valuesFrom n p (drain n p k t .left) ≡ drop k (valuesFrom n p t)
 unfolding drain
@@ -80,7 +80,7 @@ drain-leaves (suc n) p (suc k) t =
     (values-free n p _ (drain-below n (suc p) (suc k) t p (omega arith) ∙ e) ∙ drain-leaves n (suc p) (suc k) t))
     (λ x e. rw (drain-held n p k t x e, values-held n p t x e)
     (values-free n p _ (drain-below n (suc p) k (at t p none) p (omega arith) ∙ at-same t p none)
-    ∙ drain-leaves n (suc p) k (at t p none) ∙ ap (drop k) (taken n p t)))
+    ∙ drain-leaves n (suc p) k (at t p none) ∙ ap (drop k) (values-after n p t)))
 
 -- ---- one page
 

@@ -9,7 +9,7 @@ use native.Mathlib.Decide.{decLe}
 use lib.ListN.{length, getD, take, drop, length-append, length-take, length-drop, drop-of-length-le}
 use lib.Seq.{take-all, take-suc, take-add}
 use Rattle.laws_visits.specs.Queue.{queued, visited, unitsLeft, visit}
-use Rattle.laws_visits.specs.TwoVisits.{Begins, AllButOne}
+use Rattle.laws_visits.specs.TwoVisits.{Begins, LacksAtMostOne}
 
 -- ---- one page more
 
@@ -50,13 +50,25 @@ visit-part b p q l =
     ∙ (λ i. visited (take b p ++ ends i .out) (1 + length (take b p) + ends i .units) (queued (drop b p) (ends i .rest)))
     ∙ (λ i. visited (append-nil (take b p) i) (cost i) (queued-some (drop b p) q (omega (arith, length-drop b p)) i))
 
--- ---- all values but one at most
+-- after the page a visit goes on with the budget less what was released: the inspection is paid
+pub visit-left : (b : ℕ) (p : List ℕ) (q : List (List ℕ)) →
+    let r = visit (unitsLeft b p) q in
+    visit (b - length (take b p)) (queued (drop b p) q) ≡ visited (r .out) (r .units) (queued (drop b p) (r .rest))
+visit-left b p q = elim (decLe (length p) b) [
+  | yes l ↦ rw (take-all b p l, drop-of-length-le p l)
+  | no l ↦
+      let none : unitsLeft b p ≡ 0 = omega arith in
+      let spent-all : b - length (take b p) ≡ 0 = omega (arith, length-take b p) in
+      rw (none, spent-all, visit-zero q, visit-zero (queued (drop b p) q))
+]
 
-all : (xs : List ℕ) → AllButOne xs xs
+-- ---- lists of which one lacks at most one value
+
+all : (xs : List ℕ) → LacksAtMostOne xs xs
 all xs = (record { rest = []; whole = append-nil xs }, omega arith)
 
 -- the same values before both
-all-after : (zs xs ys : List ℕ) → AllButOne xs ys → AllButOne (zs ++ xs) (zs ++ ys)
+all-after : (zs xs ys : List ℕ) → LacksAtMostOne xs ys → LacksAtMostOne (zs ++ xs) (zs ++ ys)
 all-after zs xs ys h =
     let r = h .0 .rest in (
       record { rest = r; whole = append-assoc zs xs r ∙ ap (λ (l : List ℕ). zs ++ l) (h .0 .whole) },
@@ -64,13 +76,13 @@ all-after zs xs ys h =
     )
 
 -- one value more of a list
-all-but-last : (b : ℕ) (p : List ℕ) → b < length p → AllButOne (take b p) (take (suc b) p)
+all-but-last : (b : ℕ) (p : List ℕ) → b < length p → LacksAtMostOne (take b p) (take (suc b) p)
 all-but-last b p l =
     (record { rest = getD p b 0 ∷ []; whole = sym (take-suc p b 0 l) }, omega (arith, length-take b p, length-take (suc b) p))
 
 -- ---- one unit more
 
-one-more : (b : ℕ) (q : List (List ℕ)) → AllButOne (visit b q .out) (visit (suc b) q .out)
+one-more : (b : ℕ) (q : List (List ℕ)) → LacksAtMostOne (visit b q .out) (visit (suc b) q .out)
 one-more b [] = rw (visit-none b, visit-none (suc b)) (all [])
 one-more zero (p ∷ q) =
     let none : unitsLeft 0 p ≡ 0 = omega arith in
@@ -96,7 +108,7 @@ goes-on a b p q l =
     rw (visit-page (a + b) p q, visit-page b (drop a p) q, left, take-add a b p)
     (append-assoc (take a p) (take b (drop a p)) (visit (unitsLeft b (drop a p)) q .out))
 
-pub two-visits : (a b : ℕ) (q : List (List ℕ)) → AllButOne (visit a q .out ++ visit b (visit a q .rest) .out) (visit (a + b) q .out)
+pub two-visits : (a b : ℕ) (q : List (List ℕ)) → LacksAtMostOne (visit a q .out ++ visit b (visit a q .rest) .out) (visit (a + b) q .out)
 two-visits a b [] = rw (visit-none a, visit-none b, visit-none (a + b)) (all [])
 two-visits zero b (p ∷ q) =
     let same : 0 + b ≡ b = omega arith in

@@ -1,15 +1,16 @@
 -- Request S-14 of document 02, two visits against one: its claims, said once for any kind of visit, then of calls and of the window's
 -- own definition. Statements only. Assumes nothing.
 use mathlib.Core.Path.{_≡_}
-use mathlib.Core.Bool.{Bool, true}
+use mathlib.Core.Bool.{Bool, true, false, _&&_}
 use mathlib.Core.List.{List, [], _++_}
 use Prim.Native.Nat.{ℕ, _+_, _≤_}
+use lib.Dec.{leb}
 use lib.ListN.{length}
 use Rattle.model.specs.Calls.{release-retired, Answer, refused}
 use Rattle.model.specs.Window.{Window}
 use Rattle.model.specs.Steps.{release}
 use Rattle.model.specs.Sound.{Sound}
-use Rattle.model.specs.Contract.{State, windowOf}
+use Rattle.model.specs.Contract.{State, windowOf, refusal}
 use Rattle.model.specs.Heads.{Stepped}
 
 -- ys begins with xs
@@ -17,11 +18,11 @@ pub record Begins (xs ys : List ℕ) : Type 0 where
   pub rest : List ℕ
   pub whole : xs ++ rest ≡ ys
 
--- it does, and xs is "shorter by at most one value"
-abbrev pub AllButOne : List ℕ → List ℕ → Type 0
-AllButOne xs ys = Begins xs ys × (length ys ≤ length xs + 1)
+-- ys begins with xs, which is "shorter by at most one value"
+abbrev pub LacksAtMostOne : List ℕ → List ℕ → Type 0
+LacksAtMostOne xs ys = Begins xs ys × (length ys ≤ length xs + 1)
 
--- ---- the claims; `Visit u b xs v` says that in state u a visit of b, from 0 on, releases the values xs in this order and leaves state v
+-- ---- the claims; `Visit u b xs v`: in state u a visit of b (from 0 on) releases the values xs, in this order, and leaves state v
 
 module _ (S : Type 0) (Ok : S → Type 0) (Visit : S → ℕ → List ℕ → S → Type 0) where
   -- "From one sound state, with budgets a and b whose sum is at most 256: the values released by a visit of a, then those of a visit
@@ -30,7 +31,7 @@ module _ (S : Type 0) (Ok : S → Type 0) (Visit : S → ℕ → List ℕ → S 
   TwoVisits =
       (u v w z : S) (a b : ℕ) (xs ys zs : List ℕ) → Ok u → a + b ≤ 256
       → Visit u a xs v → Visit v b ys w → Visit u (a + b) zs z
-      → AllButOne (xs ++ ys) zs
+      → LacksAtMostOne (xs ++ ys) zs
 
   -- "Up to 256, a larger budget's list always begins with a smaller one's."
   unfoldable pub LargerBudget : Type 0
@@ -46,20 +47,20 @@ module _ (S : Type 0) (Ok : S → Type 0) (Visit : S → ℕ → List ℕ → S 
 abbrev pub ReleaseRetired : State → ℕ → Bool → Answer → List ℕ → State → Type 0
 ReleaseRetired u b listed answer xs v = Stepped u (record { call = release-retired b listed; answer = answer; returned = xs }) v
 
--- with a return list that is long enough; where the lists of u itself are too short each call is refused, and returns nothing
+-- with a return list that is long enough; where u's own lists are too short each call is refused, and all lists are empty
 abbrev pub CallVisit : State → ℕ → List ℕ → State → Type 0
 CallVisit u b xs v = (answer : Answer) × ReleaseRetired u b true answer xs v
 
 abbrev pub IsSound : State → Type 0
 IsSound u = Sound (windowOf u)
 
--- A call that is refused, 6 for its return list or 8 for a budget above 256, returns nothing and leaves the state. So the claims hold
--- of calls between which others were refused, and say nothing of a budget that was refused.
+-- A call whose return list is too short, or whose budget is above 256, is refused and returns nothing: it is no visit. It leaves the
+-- state, on every state, so that the claims hold of visits between which such calls were made.
 unfoldable pub RefusedVisit : Type 0
 RefusedVisit =
-    (u v : State) (b k : ℕ) (listed : Bool) (xs : List ℕ) → IsSound u
-    → ReleaseRetired u b listed (refused k) xs v
-    → (xs ≡ []) × (v ≡ u)
+    (u v : State) (b : ℕ) (listed : Bool) (answer : Answer) (xs : List ℕ) → listed && leb b 256 ≡ false
+    → ReleaseRetired u b listed answer xs v
+    → (answer ≡ refused (refusal u (release-retired b listed))) × (xs ≡ []) × (v ≡ u)
 
 -- ---- visits by the window's own definition
 

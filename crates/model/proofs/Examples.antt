@@ -4,11 +4,11 @@ use mathlib.Core.Path.{_≡_, refl}
 use mathlib.Core.Bool.{true, false}
 use mathlib.Core.Option.{some}
 use mathlib.Core.List.{List, [], _∷_, _++_}
-use Prim.Native.Nat.{ℕ, zero, suc, _+_, _*_}
-use lib.ListN.{length, replicate}
+use Prim.Native.Nat.{ℕ, suc, _+_}
+use lib.ListN.{length}
 use Rattle.words.specs.First.{firstFrom, firstRound}
 use Rattle.words.specs.Word.{bitAt, withBit, countBelow, span, wordBelow, lowest}
-use Rattle.window.specs.Memory.{Memory, memory, capacity, pageCount, blockCount, pageWords, blockWords}
+use Rattle.window.specs.Memory.{Memory, capacity}
 use Rattle.window.specs.Refusals.{limits, longEnough}
 use Rattle.window.specs.New.{fresh as freshHeader, made, refused as notMade, newResult, cleared, shortMemory, newOf}
 use Rattle.model.specs.Calls.{get, successor-after, first-from, iter, stranger, check, Call, insert, exchange, remove, ask, remove-range, clear, clear-bounded, release-retired, Answer, done, new, absent, found, pair, released, refused}
@@ -17,6 +17,7 @@ use Rattle.model.specs.Positions.{Positions, positions, plain, drain, in
 use Rattle.model.specs.Window.{Window, decode, freshWindow, cellOf, iterStep}
 use Rattle.model.specs.Pages.{freeCell, promoted, nthSet, packed, insertPage, drainPage}
 use Rattle.model.specs.Steps.{noteNonempty, splitBlock, releasePage, nextRetired, releaseUnits, revive, removeSlots, retireInBlock, retireBlock, retireBlocks, retirePages, retireStretch, retireRange, retireAll, releasePages, insertStep, exchangeStep, removeStep, rangeStep, clearStep, clearBoundedStep, releaseStep, windowStep, windowDoes, Effect}
+use Rattle.model.specs.Runs.{lent, afterNew, after, from, insertsFrom}
 use Rattle.model.proofs.NewLaws.{new-window}
 
 -- a line of output: answer, len, retired_held, promotions, demotions, dropped values
@@ -38,27 +39,6 @@ lineOf e =
 abbrev lines : Window → List Call → List Line
 lines w [] = []
 lines w (c ∷ cs) = lineOf (windowStep w c) ∷ lines (windowStep w c .after) cs
-
-abbrev after : Window → List Call → Window
-after w [] = w
-after w (c ∷ cs) = after (windowStep w c .after) cs
-
--- memory as long as window_size names it, and what an accepted `new` leaves of it
-abbrev lent : ℕ → Memory
-lent size =
-    memory (replicate (capacity size) 0) (replicate (capacity size) 0) (replicate (pageWords * pageCount size) 0) (replicate (blockWords * blockCount size) 0)
-
-abbrev afterNew : ℕ → ℕ → ℕ → Window
-afterNew size n d = freshWindow size n d (lent size)
-
--- the n numbers from k upwards; the inserts of n sequences from 0 upwards, each with its own number as value
-abbrev from : ℕ → ℕ → List ℕ
-from k zero = []
-from k (suc n) = k ∷ from (suc k) n
-
-abbrev insertsFrom : ℕ → ℕ → List Call
-insertsFrom s zero = []
-insertsFrom s (suc n) = insert s s true ∷ insertsFrom (suc s) n
 
 listing : lines (afterNew 64 2 1)
     (insert 5 50 true ∷ insert 69 51 true ∷ insert 6 60 true ∷ insert 7 70 true ∷ remove-range 6 7 true ∷ clear true ∷ ask (successor-after 5) ∷ [])

@@ -1,5 +1,5 @@
 -- Definitions and statements, in reading order: the calls, a row for each of them, the plain table, demand 3; then the
--- window seen from its positions, and what a head owes so that demand 3 holds of it. No proofs: those are in proofs/.
+-- window seen from its positions, what a head owes so that demand 3 holds of it, and runs for examples. No proofs: those are in proofs/.
 pub mod Calls
 pub mod Roles
 pub mod Table
@@ -13,3 +13,4 @@ pub mod Heads
 pub mod Positions
 pub mod Refinement
 pub mod Strangers
+pub mod Runs
