@@ -127,7 +127,7 @@ call-queues u v b xs ok l x =
 
 -- ---- refused calls
 
--- what is refused for its arguments is refused
+-- with a short return list or too large a budget some refusal is due
 refused-first : (fit listed taken : Bool) → listed && taken ≡ false → first 6 fit (first 6 listed (first 8 taken 0)) ≡ 0 → ⊥
 refused-first true true true e z = true≢false e
 refused-first true true false e z = omega arith
