@@ -150,7 +150,7 @@ s-14 =
     let larger = queues-larger Window Proper WindowVisit windowQueue window-queues in
     record {
       calls = (queues-two State IsSound CallVisit stateQueue call-queues, queues-larger State IsSound CallVisit stateQueue call-queues);
-      refused = refused-visit;
+      refused-calls = refused-visit;
       windows = (
         λ u v w z a b xs ys zs ok. two u v w z a b xs ys zs (window-proper u ok),
         λ u v w a b xs ys ok. larger u v w a b xs ys (window-proper u ok),

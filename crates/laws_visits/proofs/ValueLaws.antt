@@ -5,13 +5,12 @@ use mathlib.Core.Option.{none, some}
 use mathlib.Core.List.{List, [], _∷_}
 use Prim.Native.Nat.{ℕ, zero, suc, _+_, _*_, _≤_, _<_}
 use native.Mathlib.Omega.{arith}
-use native.Mathlib.Decide.{decLt}
 use lib.ListN.{length, take, drop}
 use borrow.Author.Tests.{ltb-true, ltb-false}
 use Rattle.model.specs.Table.{Pair, Table, sum, held, at}
 use Rattle.model.specs.Positions.{drain, inPage, pageHolds}
 use Rattle.model.proofs.SumLaws.{case, sum-zero, sum-first, at-same, at-other, no-length}
-use Rattle.model.proofs.DrainLaws.{drain-free, drain-held, drain-below, drain-above}
+use Rattle.model.proofs.DrainLaws.{drain-free, drain-held, drain-below, drain-other-page}
 use Rattle.laws_visits.specs.Queue.{valuesFrom, pageValues}
 
 -- ---- by what stands at the first position
@@ -96,7 +95,4 @@ page-some t g e = omega (arith, page-count t g, ltb-true 0 (inPage t g) e)
 
 -- a drain of page x leaves the values of another page
 pub page-other : (x b : ℕ) (t : Table) (g : ℕ) → (g ≡ x → ⊥) → pageValues (drain 64 (64 * x) b t .left) g ≡ pageValues t g
-page-other x b t g n = values-same 64 (64 * g) (drain 64 (64 * x) b t .left) t (λ q a e. elim (decLt g x) [
-  | yes y ↦ drain-below 64 (64 * x) b t q (omega arith)
-  | no y ↦ drain-above 64 (64 * x) b t q (omega arith)
-])
+page-other x b t g n = values-same 64 (64 * g) (drain 64 (64 * x) b t .left) t (λ q a e. drain-other-page x g b t q n a e)

@@ -64,38 +64,38 @@ visit-left b p q = elim (decLe (length p) b) [
 
 -- ---- lists of which one lacks at most one value
 
-all : (xs : List ℕ) → LacksAtMostOne xs xs
-all xs = (record { rest = []; whole = append-nil xs }, omega arith)
+lacks-none : (xs : List ℕ) → LacksAtMostOne xs xs
+lacks-none xs = (record { rest = []; whole = append-nil xs }, omega arith)
 
 -- the same values before both
-all-after : (zs xs ys : List ℕ) → LacksAtMostOne xs ys → LacksAtMostOne (zs ++ xs) (zs ++ ys)
-all-after zs xs ys h =
+lacks-after : (zs xs ys : List ℕ) → LacksAtMostOne xs ys → LacksAtMostOne (zs ++ xs) (zs ++ ys)
+lacks-after zs xs ys h =
     let r = h .0 .rest in (
       record { rest = r; whole = append-assoc zs xs r ∙ ap (λ (l : List ℕ). zs ++ l) (h .0 .whole) },
       omega (arith, h .1, length-append zs xs, length-append zs ys),
     )
 
 -- one value more of a list
-all-but-last : (b : ℕ) (p : List ℕ) → b < length p → LacksAtMostOne (take b p) (take (suc b) p)
-all-but-last b p l =
+lacks-last : (b : ℕ) (p : List ℕ) → b < length p → LacksAtMostOne (take b p) (take (suc b) p)
+lacks-last b p l =
     (record { rest = getD p b 0 ∷ []; whole = sym (take-suc p b 0 l) }, omega (arith, length-take b p, length-take (suc b) p))
 
 -- ---- one unit more
 
 one-more : (b : ℕ) (q : List (List ℕ)) → LacksAtMostOne (visit b q .out) (visit (suc b) q .out)
-one-more b [] = rw (visit-none b, visit-none (suc b)) (all [])
+one-more b [] = rw (visit-none b, visit-none (suc b)) (lacks-none [])
 one-more zero (p ∷ q) =
     let none : unitsLeft 0 p ≡ 0 = omega arith in
-    rw (visit-zero (p ∷ q), visit-page 0 p q, none, visit-zero q) (all [])
+    rw (visit-zero (p ∷ q), visit-page 0 p q, none, visit-zero q) (lacks-none [])
 one-more (suc b) (p ∷ q) = elim (decLe (length p) b) [
   | yes l ↦
       let less : unitsLeft (suc b) p ≡ suc (unitsLeft b p) = omega arith in
       rw (visit-whole b p q l, visit-whole (suc b) p q (omega arith), less)
-      (all-after p (visit (unitsLeft b p) q .out) (visit (suc (unitsLeft b p)) q .out) (one-more (unitsLeft b p) q))
+      (lacks-after p (visit (unitsLeft b p) q .out) (visit (suc (unitsLeft b p)) q .out) (one-more (unitsLeft b p) q))
   | no l ↦
       let none : unitsLeft (suc b) p ≡ 0 = omega arith in
       rw (visit-part b p q (omega arith), visit-page (suc b) p q, none, visit-zero q, append-nil (take (suc b) p))
-      (all-but-last b p (omega arith))
+      (lacks-last b p (omega arith))
 ]
 
 -- ---- two visits
@@ -109,10 +109,10 @@ goes-on a b p q l =
     (append-assoc (take a p) (take b (drop a p)) (visit (unitsLeft b (drop a p)) q .out))
 
 pub two-visits : (a b : ℕ) (q : List (List ℕ)) → LacksAtMostOne (visit a q .out ++ visit b (visit a q .rest) .out) (visit (a + b) q .out)
-two-visits a b [] = rw (visit-none a, visit-none b, visit-none (a + b)) (all [])
+two-visits a b [] = rw (visit-none a, visit-none b, visit-none (a + b)) (lacks-none [])
 two-visits zero b (p ∷ q) =
     let same : 0 + b ≡ b = omega arith in
-    rw (visit-zero (p ∷ q), same) (all (visit b (p ∷ q) .out))
+    rw (visit-zero (p ∷ q), same) (lacks-none (visit b (p ∷ q) .out))
 two-visits (suc a) b (p ∷ q) =
     let sum : suc a + b ≡ suc (a + b) = omega arith in
     elim (decLe (length p) a) [
@@ -120,10 +120,10 @@ two-visits (suc a) b (p ∷ q) =
           let r = visit (unitsLeft a p) q in
           let left : unitsLeft (a + b) p ≡ unitsLeft a p + b = omega arith in
           rw (sum, visit-whole a p q l, visit-whole (a + b) p q (omega arith), left, append-assoc p (r .out) (visit b (r .rest) .out))
-          (all-after p (r .out ++ visit b (r .rest) .out) (visit (unitsLeft a p + b) q .out) (two-visits (unitsLeft a p) b q))
+          (lacks-after p (r .out ++ visit b (r .rest) .out) (visit (unitsLeft a p + b) q .out) (two-visits (unitsLeft a p) b q))
       | no l ↦
           rw (sum, visit-part a p q (omega arith), goes-on a b p q (omega arith))
-          (all-after (take a p) (visit b (drop a p ∷ q) .out) (visit (suc b) (drop a p ∷ q) .out) (one-more b (drop a p ∷ q)))
+          (lacks-after (take a p) (visit b (drop a p ∷ q) .out) (visit (suc b) (drop a p ∷ q) .out) (one-more b (drop a p ∷ q)))
     ]
 
 -- ---- a larger budget: what is released is that of the smaller one, and of a visit of the difference after it

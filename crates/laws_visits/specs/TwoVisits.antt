@@ -47,7 +47,7 @@ module _ (S : Type 0) (Ok : S → Type 0) (Visit : S → ℕ → List ℕ → S 
 abbrev pub ReleaseRetired : State → ℕ → Bool → Answer → List ℕ → State → Type 0
 ReleaseRetired u b listed answer xs v = Stepped u (record { call = release-retired b listed; answer = answer; returned = xs }) v
 
--- with a return list that is long enough; where u's own lists are too short each call is refused, and all lists are empty
+-- with a return list that is long enough; where u's own lists are too short every call is refused and returns nothing
 abbrev pub CallVisit : State → ℕ → List ℕ → State → Type 0
 CallVisit u b xs v = (answer : Answer) × ReleaseRetired u b true answer xs v
 
@@ -75,5 +75,5 @@ SoundWindow w = (u : State) × (windowOf u ≡ w) × IsSound u
 
 pub record S-14 : Type 0 where
   pub calls : TwoVisits State IsSound CallVisit × LargerBudget State IsSound CallVisit
-  pub refused : RefusedVisit
+  pub refused-calls : RefusedVisit
   pub windows : TwoVisits Window SoundWindow WindowVisit × LargerBudget Window SoundWindow WindowVisit

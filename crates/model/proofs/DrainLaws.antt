@@ -3,9 +3,9 @@
 use mathlib.Core.Path.{_≡_, refl, sym, ap, _∙_}
 use mathlib.Core.Option.{none, some}
 use mathlib.Core.List.{[], _∷_, _++_}
-use Prim.Native.Nat.{ℕ, zero, suc, _+_, _-_, _≤_, _<_}
+use Prim.Native.Nat.{ℕ, zero, suc, _+_, _-_, _*_, _≤_, _<_}
 use native.Mathlib.Omega.{arith}
-use native.Mathlib.Decide.{ℕ-discrete}
+use native.Mathlib.Decide.{decLt, ℕ-discrete}
 use lib.ListN.{length}
 use Rattle.model.specs.Table.{Pair, Table, sum, held, at}
 use Rattle.model.specs.Positions.{Drained, drained, drain}
@@ -98,6 +98,13 @@ drain-above (suc n) p (suc k) t q h =
     case (t p)
     (λ e. rw (drain-free n p k t e) (drain-above n (suc p) (suc k) t q (omega arith)))
     (λ x e. rw (drain-held n p k t x e) (drain-above n (suc p) k (at t p none) q (omega arith) ∙ at-other t p none q (λ d. omega arith)))
+
+-- a drain of page x leaves page g
+pub drain-other-page : (x g k : ℕ) (t : Table) (q : ℕ) → (g ≡ x → ⊥) → 64 * g ≤ q → q < 64 * g + 64 → drain 64 (64 * x) k t .left q ≡ t q
+drain-other-page x g k t q n a b = elim (decLt g x) [
+  | yes y ↦ drain-below 64 (64 * x) k t q (omega arith)
+  | no y ↦ drain-above 64 (64 * x) k t q (omega arith)
+]
 
 at-none : (t : Table) (p q : ℕ) → t q ≡ none → at t p none q ≡ none
 at-none t p q h = elim (ℕ-discrete q p) [ yes i ↦ rw i (at-same t p none) | no i ↦ at-other t p none q i ∙ h ]

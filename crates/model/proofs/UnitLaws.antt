@@ -15,7 +15,7 @@ use Rattle.model.specs.Table.{Table, sum, held}
 use Rattle.model.specs.Demand3.{one}
 use Rattle.model.specs.Positions.{drain, inPage, pageHolds, nextPage, cursorAfter, Released, release}
 use Rattle.model.proofs.SumLaws.{sum-ext, sum-zero, sum-point, sum-pick, total-append, total-length, each}
-use Rattle.model.proofs.DrainLaws.{drain-below, drain-above, drain-most, drain-rest}
+use Rattle.model.proofs.DrainLaws.{drain-other-page, drain-most, drain-rest}
 use Rattle.model.proofs.ReleaseLaws.{no-page, cursor-le, release-stops, release-visits}
 
 -- the pages that hold a pair
@@ -47,13 +47,8 @@ module _ (pages x b : ℕ) (t : Table) (l : x < pages) where
 
   other-page : (g : ℕ) → (g ≡ x → ⊥) → pageHolds left g ≡ pageHolds t g
   unfolding inPage
-  other-page g n = ap (ltb 0) (sum-ext 64 (λ (j : ℕ). held (left (64 * g + j))) (λ (j : ℕ). held (t (64 * g + j))) (λ j k. ap held (same j k)))
-    where
-      same : (j : ℕ) → j < 64 → left (64 * g + j) ≡ t (64 * g + j)
-      same j k = elim (decLt g x) [
-        | yes y ↦ drain-below 64 (64 * x) b t (64 * g + j) (omega arith)
-        | no y ↦ drain-above 64 (64 * x) b t (64 * g + j) (omega arith)
-      ]
+  other-page g n = ap (ltb 0) (sum-ext 64 (λ (j : ℕ). held (left (64 * g + j))) (λ (j : ℕ). held (t (64 * g + j))) (λ j k.
+      ap held (drain-other-page x g b t (64 * g + j) n (omega arith) (omega arith))))
 
   -- it was one of those that held a pair
   one-page-less : pageHolds t x ≡ true → pageHolds left x ≡ false → pagesHeld pages t ≡ 1 + pagesHeld pages left
