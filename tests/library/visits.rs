@@ -102,9 +102,9 @@ struct Both {
 }
 
 impl Both {
-    fn call(&mut self, call: Call, host: bool) -> Result<(), String> {
+    fn call(&mut self, call: Call) -> Result<(), String> {
         let (answer, dropped) = call_and_drops(self.source.as_mut(), call);
-        self.library.call(call, host, &answer, &dropped)?;
+        self.library.call(call, false, &answer, &dropped)?;
         self.calls.push(call);
         Ok(())
     }
@@ -180,7 +180,7 @@ fn list(seed: u64, calls: u32, options: Options, counts: &mut Counts) -> Result<
         let Some(both) = &mut both else {
             continue;
         };
-        both.call(call, false).map_err(at)?;
+        both.call(call).map_err(at)?;
         if both.library.held() > 0 {
             counts.states += 1;
             for _ in 0..PAIRS {
