@@ -12,10 +12,10 @@ use Rattle.window.specs.declared.answers.Answer.the-variants.{Absent}
 use Rattle.window.specs.declared.answers.Step.{Step}
 use Rattle.window.specs.Memory.{Memory, memory, position}
 use Rattle.model.specs.Calls.{exchange, refused, absent}
-use Rattle.model.specs.Table.{valueIf}
+use Rattle.model.specs.Table.{valueIf, finds}
 use Rattle.model.specs.Window.{Page, decode, standsAt, cellOf}
 use Rattle.model.specs.Pages.{setValue}
-use Rattle.model.specs.Steps.{effect, finds, windowDoes, exchangeStep, withPage}
+use Rattle.model.specs.Steps.{effect, windowDoes, exchangeStep, withPage}
 use Rattle.model.specs.Sound.{Sound}
 use Rattle.page_base.specs.declared.PageWords.{PageWords}
 use Rattle.page_base.specs.declared.find.Read.{Read}

@@ -14,10 +14,10 @@ use Rattle.window.specs.declared.answers.Step.{Step}
 use Rattle.window.specs.Memory.{Memory, memory, position, pageCount}
 use Rattle.model.specs.Calls as model
 use Rattle.model.specs.Calls.{remove, absent, found}
-use Rattle.model.specs.Table.{Pair, valueIf}
+use Rattle.model.specs.Table.{Pair, valueIf, finds}
 use Rattle.model.specs.Window.{Page, Window, decode, standsAt, cellOf}
 use Rattle.model.specs.Pages.{takeCell, demotes, afterRemoval, holdsValue}
-use Rattle.model.specs.Steps.{effect, finds, windowDoes, removeStep, withPage, countDemotion, noteNonempty, putPage, subLive}
+use Rattle.model.specs.Steps.{effect, windowDoes, removeStep, withPage, countDemotion, noteNonempty, putPage, subLive}
 use Rattle.model.specs.Sound.{Sound}
 use Rattle.page_base.specs.declared.PageWords.{PageWords}
 use Rattle.page_base.specs.declared.find.Read.{Read}

@@ -13,11 +13,11 @@ use Rattle.window.specs.Memory.{position}
 use Rattle.window.proofs.MemoryLaws.{position-slot}
 use Rattle.model.specs.Calls.{Query, get, successor-after, first-from, iter, stranger, check, insert, exchange, remove, ask}
 use Rattle.model.specs.Roles.{ifRefused, roleOf, toldOf}
-use Rattle.model.specs.Table.{Pair, Table, at, putAt, putAnswer, exchangeAt, removeAt, tableAnswer}
+use Rattle.model.specs.Table.{Pair, Table, at, putAt, putAnswer, exchangeAt, removeAt, tableAnswer, finds}
 use Rattle.model.specs.Window.{Page, Window, sizeOf, capacityOf, pagesOf, cellOf, standsAt, isRetired, liveAt, retiredAt, isReached, iterStep}
 use Rattle.model.specs.Pages.{setValue, takeCell, afterRemoval, demotes, insertPage, Inserted}
 use Rattle.model.specs.Positions.{Positions, positions, plain, does}
-use Rattle.model.specs.Steps.{withPage, noteNonempty, putPage, addLive, subLive, countPromotion, countDemotion, revive, finds, isNew, insertStep, exchangeStep, removeStep, windowAnswer, windowDoes}
+use Rattle.model.specs.Steps.{withPage, noteNonempty, putPage, addLive, subLive, countPromotion, countDemotion, revive, isNew, insertStep, exchangeStep, removeStep, windowAnswer, windowDoes}
 use Rattle.model.specs.Sound.{Sound}
 use Rattle.page_base.specs.Page.{Placed}
 use Rattle.page_base.specs.Contracts.{exchanged}

@@ -6,9 +6,10 @@ use Prim.Native.Nat.{ℕ, _%_, _<_}
 use native.Mathlib.Omega.{arith}
 use Rattle.words.proofs.CaseLaws.{bool}
 use Rattle.window.proofs.MemoryLaws.{capacity-pages, position-lt, position-slot}
+use Rattle.model.specs.Table.{finds}
 use Rattle.model.specs.Window.{Page, Window, capacityOf, pagesOf, cellOf, isRetired}
 use Rattle.model.specs.Pages.{setValue, takeCell, demotes, afterRemoval}
-use Rattle.model.specs.Steps.{pageOf, liveHere, finds, exchangeStep, removeStep}
+use Rattle.model.specs.Steps.{pageOf, liveHere, exchangeStep, removeStep}
 use Rattle.model.specs.Sound.{SoundPage, Sound}
 use Rattle.page_base.proofs.PlaceLaws.{placed, sound-of, take-placed}
 use Rattle.page_base.proofs.ReadLaws.{Found, found-cell}

@@ -7,9 +7,10 @@ use lib.Dec.{eqb, leb, ltb}
 use lib.ListN.{length}
 use Rattle.words.proofs.CaseLaws.{bool}
 use Rattle.words.specs.Word.{isSet, clearBit}
+use Rattle.model.specs.Table.{finds}
 use Rattle.model.specs.Window.{Window, capacityOf, blocksOf, cellOf, isRetired}
 use Rattle.model.specs.Pages.{holdsValue, takeCell, afterRemoval, demotes, unlessEmptied, drainPage, insertPage}
-use Rattle.model.specs.Steps.{withHeader, withPage, setHeld, setRetiredBlocks, setMarks, noteNonempty, addLive, subLive, countPromotion, countDemotion, dropBlockMarks, splitBlock, allPositions, Returned, returnedBy, releasePage, revive, removeSlots, retireInBlock, retireBlock, coversBlock, retireBlocks, retirePages, retireStretch, retireRange, retireAll, Effect, pageOf, liveHere, finds, isNew, insertStep, exchangeStep, removeStep}
+use Rattle.model.specs.Steps.{withHeader, withPage, setHeld, setRetiredBlocks, setMarks, noteNonempty, addLive, subLive, countPromotion, countDemotion, dropBlockMarks, splitBlock, allPositions, Returned, returnedBy, releasePage, revive, removeSlots, retireInBlock, retireBlock, coversBlock, retireBlocks, retirePages, retireStretch, retireRange, retireAll, Effect, pageOf, liveHere, isNew, insertStep, exchangeStep, removeStep}
 use Rattle.laws_soundness.specs.Change.{SameLimits}
 use Rattle.laws_soundness.specs.Retire.{retireNext, insidePage, firstPage, lastPage}
 

@@ -1,8 +1,9 @@
--- Definitions and statements, in reading order: the calls, a row for each of them, the plain table, demand 3; then the
+-- Definitions and statements, in reading order: the calls, a row for each of them, the plain table, the acknowledge point, demand 3; then the
 -- window seen from its positions, what a head owes so that demand 3 holds of it, and runs for examples. No proofs: those are in proofs/.
 pub mod Calls
 pub mod Roles
 pub mod Table
+pub mod Point
 pub mod Demand3
 pub mod Window
 pub mod Pages

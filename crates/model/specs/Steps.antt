@@ -11,7 +11,7 @@ use Rattle.words.specs.Word.{isSet, withBit, setBit, clearBit, wordOf, span}
 use Rattle.window.specs.declared.AdaptiveReceiverPacketWindow.{AdaptiveReceiverPacketWindow}
 use Rattle.window.specs.Memory.{position}
 use Rattle.model.specs.Calls.{Query, get, successor-after, first-from, iter, stranger, check, Call, insert, exchange, remove, remove-range, clear, clear-bounded, release-retired, ask, Answer, done, new, replaced, absent, found, pair, released, refused}
-use Rattle.model.specs.Table.{Pair, valueIf, rangeCount, within, sum, heldInRange, searchFrom, strangerIn, Known, known, argumentRefusal}
+use Rattle.model.specs.Table.{Pair, valueIf, finds, rangeCount, within, sum, heldInRange, searchFrom, strangerIn, Known, known, argumentRefusal}
 use Rattle.model.specs.Demand3.{one}
 use Rattle.model.specs.Window.{Page, Block, Window, window, upd, sizeOf, capacityOf, pagesOf, blocksOf, cellOf, isRetired, liveAt, iterStep}
 use Rattle.model.specs.Pages.{valuesIn, holdsValue, setValue, takeCell, unlessEmptied, demotes, afterRemoval, insertPage, drainPage}
@@ -316,11 +316,6 @@ insertStep w s v =
     (addLive (countPromotion (putPage (r .after) g (i .page)) (i .promotes)) (g / 64) 1)
     (withPage (r .after) g (i .page)))
     (i .answer) (r .out)
-
--- whether get finds the sequence
-abbrev pub finds : ℕ → Option Pair → Bool
-finds s none = false
-finds s (some e) = eqb (e .sequence) s
 
 unfoldable pub exchangeStep : Window → ℕ → ℕ → Effect
 exchangeStep w s v =

@@ -37,6 +37,11 @@ abbrev pub held : Option Pair → ℕ
 held none = 0
 held (some e) = 1
 
+-- whether the pair there is this sequence's
+abbrev pub finds : ℕ → Option Pair → Bool
+finds s none = false
+finds s (some e) = eqb (e .sequence) s
+
 -- "get: the value if the sequence matches"
 abbrev pub valueIf : ℕ → Option Pair → Answer
 valueIf s none = absent
@@ -60,6 +65,12 @@ exchangeAt s v (some e) = cond (eqb (e .sequence) s) (some (pairOf s v)) (some e
 abbrev pub removeAt : ℕ → Option Pair → Option Pair
 removeAt s none = none
 removeAt s (some e) = cond (eqb (e .sequence) s) none (some e)
+
+-- ---- sequences from a base
+
+-- "Sums with the base are modulo 2^31" (document 02, S-1): the sequence at distance d from the base
+abbrev pub sequenceAt : ℕ → ℕ → ℕ
+sequenceAt base d = (base + d) % 2 ^ 31
 
 -- ---- ranges of positions
 

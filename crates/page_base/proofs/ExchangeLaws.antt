@@ -7,10 +7,9 @@ use native.Mathlib.Decide.{ℕ-discrete}
 use lib.Dec.{eqb}
 use borrow.Author.Tests.{eq-eqb, ne-eqb}
 use Rattle.words.proofs.CaseLaws.{bool}
-use Rattle.model.specs.Table.{Pair, pairOf, exchangeAt}
+use Rattle.model.specs.Table.{Pair, pairOf, exchangeAt, finds}
 use Rattle.model.specs.Window.{Page, cellOf, standsAt}
 use Rattle.model.specs.Pages.{setValue}
-use Rattle.model.specs.Steps.{finds}
 use Rattle.model.specs.Sound.{Used, SoundPage}
 use Rattle.page_base.specs.Page.{Placed}
 use Rattle.page_base.specs.Contracts.{exchanged}

@@ -8,9 +8,9 @@ use lib.Dec.{eqb}
 use borrow.Author.Tests.{lt-ltb, le-ltb, eq-eqb, eqb-true}
 use Rattle.words.proofs.CaseLaws.{bool}
 use Rattle.model.specs.Calls.{absent, found}
+use Rattle.model.specs.Table.{finds}
 use Rattle.model.specs.Window.{Page, cellOf, standsAt}
 use Rattle.model.specs.Pages.{setValue}
-use Rattle.model.specs.Steps.{finds}
 use Rattle.model.specs.Sound.{Used}
 use Rattle.page_base.proofs.PlaceLaws.{cell-used}
 use Rattle.page_base.specs.Contracts.{cellWith, readOf, exchanged}

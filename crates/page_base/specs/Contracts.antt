@@ -5,10 +5,9 @@ use mathlib.Core.Bool.{cond}
 use mathlib.Core.List.{List}
 use Prim.Native.Nat.{ℕ, _%_, _≤_}
 use Rattle.model.specs.Calls.{Answer, absent, found}
-use Rattle.model.specs.Table.{valueIf}
+use Rattle.model.specs.Table.{valueIf, finds}
 use Rattle.model.specs.Window.{Page, cellOf, standsAt}
 use Rattle.model.specs.Pages.{setValue}
-use Rattle.model.specs.Steps.{finds}
 use Rattle.page_base.specs.declared.PageWords.{PageWords}
 use Rattle.page_base.specs.declared.find.Read.{Read}
 use Rattle.page_base.specs.declared.find.Read.the-variants.{Absent, Value}

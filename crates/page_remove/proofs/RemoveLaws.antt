@@ -8,10 +8,9 @@ use lib.Dec.{eqb}
 use Rattle.words.proofs.CaseLaws.{bool}
 use Rattle.words.specs.Word.{count}
 use Rattle.words.proofs.BitLaws.{bit-none}
-use Rattle.model.specs.Table.{Pair, valueIf, removeAt}
+use Rattle.model.specs.Table.{Pair, valueIf, removeAt, finds}
 use Rattle.model.specs.Window.{Page, cellOf, standsAt}
 use Rattle.model.specs.Pages.{words, takeCell, packed, unlessEmptied, demotes, afterRemoval}
-use Rattle.model.specs.Steps.{finds}
 use Rattle.model.specs.Sound.{SoundPage}
 use Rattle.page_base.specs.Page.{Placed, Here}
 use Rattle.page_base.specs.Contracts.{readOf}

@@ -5,9 +5,9 @@ use Prim.Native.Nat.{ℕ, _%_}
 use lib.Dec.{ltb}
 use Rattle.words.specs.Word.{clearBit, count}
 use Rattle.model.specs.Calls.{Answer}
+use Rattle.model.specs.Table.{finds}
 use Rattle.model.specs.Window.{Page, cellOf, standsAt}
 use Rattle.model.specs.Pages.{takeCell, nthSet, demotes, afterRemoval}
-use Rattle.model.specs.Steps.{finds}
 use Rattle.page_base.specs.declared.PageWords.{PageWords}
 use Rattle.page_base.specs.Page.{page}
 use Rattle.page_base.specs.Contracts.{readAnswer, readOf}
