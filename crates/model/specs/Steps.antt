@@ -26,6 +26,8 @@ headerWith h len retiredHeld cursor summary retiredBlocks promotions demotions =
   len = len;
   «retired_held» = retiredHeld;
   «release_cursor» = cursor;
+  base = h .base;
+  point = h .point;
   «nonempty_summary» = summary;
   «retired_blocks» = retiredBlocks;
   promotions = promotions;
@@ -52,6 +54,29 @@ setPromotions h x = headerWith h (h .len) (h .«retired_held») (h .«release_cu
 
 abbrev pub setDemotions : AdaptiveReceiverPacketWindow → ℕ → AdaptiveReceiverPacketWindow
 setDemotions h x = headerWith h (h .len) (h .«retired_held») (h .«release_cursor») (h .«nonempty_summary») (h .«retired_blocks») (h .promotions) x
+
+-- base and point, which the calls of document 01 leave as they are
+abbrev pub headerFrom : AdaptiveReceiverPacketWindow → (base point : ℕ) → AdaptiveReceiverPacketWindow
+headerFrom h base point = record {
+  «window_size» = h .«window_size»;
+  n = h .n;
+  «demote_at» = h .«demote_at»;
+  len = h .len;
+  «retired_held» = h .«retired_held»;
+  «release_cursor» = h .«release_cursor»;
+  base = base;
+  point = point;
+  «nonempty_summary» = h .«nonempty_summary»;
+  «retired_blocks» = h .«retired_blocks»;
+  promotions = h .promotions;
+  demotions = h .demotions;
+}
+
+abbrev pub setBase : AdaptiveReceiverPacketWindow → ℕ → AdaptiveReceiverPacketWindow
+setBase h x = headerFrom h x (h .point)
+
+abbrev pub setPoint : AdaptiveReceiverPacketWindow → ℕ → AdaptiveReceiverPacketWindow
+setPoint h x = headerFrom h (h .base) x
 
 -- ---- changes of a block, one word each
 

@@ -28,6 +28,10 @@ pub struct AdaptiveReceiverPacketWindow {
     pub retired_held: u32,
     // The page that release inspects next.
     pub release_cursor: u32,
+    // Where the acknowledge point is looked for from; set by the caller.
+    pub base: u32,
+    // The acknowledge point: the first sequence from the base that is not live.
+    pub point: u32,
     // Bit b: a page of block b holds a value.
     pub nonempty_summary: u64,
     // Bit b: every page of block b counts as retired.
@@ -88,6 +92,8 @@ impl AdaptiveReceiverPacketWindow {
             len: 0,
             retired_held: 0,
             release_cursor: 0,
+            base: 0,
+            point: 0,
             nonempty_summary: 0,
             retired_blocks: 0,
             promotions: 0,
