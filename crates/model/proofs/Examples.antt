@@ -1,5 +1,5 @@
--- Document 01's listing, its edge cases marked * as one list, its traps, stranger's cases and the order of refusals, by computation
--- on the definitions. Assumes nothing.
+-- Document 01's listing, its edge cases marked * as one list, its traps, stranger's cases, the acknowledge point and the order of
+-- refusals, by computation on the definitions. Assumes nothing.
 use mathlib.Core.Path.{_≡_, refl}
 use mathlib.Core.Bool.{true, false}
 use mathlib.Core.Option.{some}
@@ -11,12 +11,13 @@ use Rattle.words.specs.Word.{bitAt, withBit, countBelow, span, wordBelow, lowes
 use Rattle.window.specs.Memory.{Memory, capacity}
 use Rattle.window.specs.Refusals.{limits, longEnough}
 use Rattle.window.specs.New.{fresh as freshHeader, made, refused as notMade, newResult, cleared, shortMemory, newOf}
-use Rattle.model.specs.Calls.{get, successor-after, first-from, iter, stranger, check, Call, insert, exchange, remove, ask, remove-range, clear, clear-bounded, release-retired, Answer, done, new, absent, found, pair, released, refused}
+use Rattle.model.specs.Calls.{get, successor-after, first-from, iter, stranger, check, Call, insert, exchange, remove, ask, remove-range, clear, clear-bounded, release-retired, set-base, take-front, Answer, done, new, absent, found, pair, released, refused}
 use Rattle.model.specs.Table.{pairOf, fresh, at, rangeCount, sum, heldInRange, searchFrom, strangerIn, known, argumentRefusal, tableStep, tableDoes}
+use Rattle.model.specs.Point.{reach}
 use Rattle.model.specs.Positions.{Positions, positions, plain, drain, inPage, sweep, sweepRange, release, step, does}
 use Rattle.model.specs.Window.{Window, decode, freshWindow, cellOf, iterStep}
 use Rattle.model.specs.Pages.{freeCell, promoted, nthSet, packed, insertPage, drainPage}
-use Rattle.model.specs.Steps.{noteNonempty, splitBlock, releasePage, nextRetired, releaseUnits, revive, removeSlots, retireInBlock, retireBlock, retireBlocks, retirePages, retireStretch, retireRange, retireAll, releasePages, insertStep, exchangeStep, removeStep, rangeStep, clearStep, clearBoundedStep, releaseStep, windowStep, windowDoes, Effect}
+use Rattle.model.specs.Steps.{noteNonempty, splitBlock, releasePage, nextRetired, releaseUnits, revive, removeSlots, retireInBlock, retireBlock, retireBlocks, retirePages, retireStretch, retireRange, retireAll, releasePages, insertStep, exchangeStep, removeStep, frontStep, rangeStep, clearStep, clearBoundedStep, releaseStep, windowStep, windowDoes, Effect}
 use Rattle.model.specs.Runs.{lent, afterNew, after, from, insertsFrom}
 use Rattle.model.proofs.NewLaws.{new-window}
 
@@ -49,7 +50,7 @@ listing = refl
 
 -- "At window_size 64, range 2147483647..0 is positions 63 and 0": over positions, and in the plain table
 twoPairs : Positions
-twoPairs = positions (at (at fresh 0 (some (pairOf 0 10))) 63 (some (pairOf 63 13))) fresh 0
+twoPairs = positions (at (at fresh 0 (some (pairOf 0 10))) 63 (some (pairOf 63 13))) fresh 0 0
 
 range-over-half : (step 64 twoPairs (remove-range 2147483647 0 true) .returned ≡ 13 ∷ 10 ∷ [])
     × (tableStep 64 (plain twoPairs) (remove-range 2147483647 0 true) .answer ≡ some (found 2))
@@ -137,7 +138,42 @@ strangers :
 unfolding firstFrom firstRound bitAt withBit countBelow span wordBelow lowest capacity freshHeader freshWindow rangeCount sum heldInRange searchFrom cellOf freeCell promoted nthSet packed insertPage drainPage noteNonempty splitBlock releasePage nextRetired releaseUnits revive removeSlots retireInBlock retireBlock retireBlocks retirePages retireStretch retireRange retireAll releasePages insertStep rangeStep clearStep clearBoundedStep releaseStep windowDoes removeStep strangerIn
 strangers = refl
 
--- ---- the order of the refusals for arguments: 6, then 5 or 8
+-- ---- the acknowledge point
+
+-- a call's answer, and the base and the point after it
+record Acknowledged : Type 0 where
+  answer : Answer
+  base : ℕ
+  point : ℕ
+
+abbrev acknowledges : Answer → (base point : ℕ) → Acknowledged
+acknowledges a b p = record { answer = a; base = b; point = p }
+
+abbrev acknowledged : Window → List Call → List Acknowledged
+acknowledged w [] = []
+acknowledged w (c ∷ cs) =
+    let e = windowStep w c in
+    acknowledges (e .answer) (e .after .header .base) (e .after .header .point) ∷ acknowledged (e .after) cs
+
+points :
+    -- through 2147483647 to 0, a hole filled, one removed before the point, the front taken, and taken where it is absent
+    (acknowledged (afterNew 64 8 2)
+    (set-base 2147483647 ∷ insert 0 1 true ∷ insert 2147483647 2 true ∷ remove 0 ∷ take-front ∷ take-front ∷ [])
+    ≡ acknowledges done 2147483647 2147483647 ∷ acknowledges new 2147483647 2147483647 ∷ acknowledges new 2147483647 1 ∷ acknowledges (found 1) 2147483647 0
+    ∷ acknowledges (found 2) 0 0 ∷ acknowledges absent 0 0 ∷ [])
+    -- a base with the top bit is refused; an alias is not live; a refused insert leaves the point
+    × (acknowledged (afterNew 64 2 1) (set-base 2147483648 ∷ insert 2147483648 7 true ∷ insert 0 8 true ∷ take-front ∷ [])
+    ≡ acknowledges (refused 9) 0 0 ∷ acknowledges new 0 0 ∷ acknowledges (refused 4) 0 0 ∷ acknowledges absent 0 0 ∷ [])
+    -- window_size 1: all its sequences are live, and the point is live too; the base set back and forth
+    × (acknowledged (afterNew 1 8 2) (insert 0 1 true ∷ insert 1 2 true ∷ take-front ∷ set-base 0 ∷ set-base 1 ∷ [])
+    ≡ acknowledges new 0 1 ∷ acknowledges new 0 1 ∷ acknowledges (found 1) 1 2 ∷ acknowledges done 0 0 ∷ acknowledges done 1 2 ∷ [])
+    -- a range, a clear
+    × (acknowledged (after (afterNew 64 8 2) (insertsFrom 0 5)) (remove-range 7 9 true ∷ remove-range 2 3 true ∷ clear true ∷ [])
+    ≡ acknowledges (found 0) 0 5 ∷ acknowledges (found 2) 0 2 ∷ acknowledges done 0 0 ∷ [])
+unfolding reach firstFrom firstRound bitAt withBit countBelow span wordBelow lowest capacity freshHeader freshWindow rangeCount sum heldInRange searchFrom cellOf freeCell promoted nthSet packed insertPage drainPage noteNonempty splitBlock releasePage nextRetired releaseUnits revive removeSlots retireInBlock retireBlock retireBlocks retirePages retireStretch retireRange retireAll releasePages insertStep rangeStep clearStep clearBoundedStep releaseStep windowDoes removeStep frontStep
+points = (refl, refl, refl, refl)
+
+-- ---- the order of the refusals for arguments: 6, then 5, 8 or 9
 
 order :
     (argumentRefusal (known 64) (insert 5 1 false) ≡ 6) × (argumentRefusal (known 64) (insert 5 1 true) ≡ 0)
@@ -146,8 +182,9 @@ order :
     × (argumentRefusal (known 64) (clear false) ≡ 6) × (argumentRefusal (known 64) (clear true) ≡ 0)
     × (argumentRefusal (known 64) (clear-bounded 257 false) ≡ 6) × (argumentRefusal (known 64) (clear-bounded 257 true) ≡ 8) × (argumentRefusal (known 64) (clear-bounded 256 true) ≡ 0)
     × (argumentRefusal (known 64) (release-retired 257 false) ≡ 6) × (argumentRefusal (known 64) (release-retired 257 true) ≡ 8) × (argumentRefusal (known 64) (release-retired 256 true) ≡ 0)
+    × (argumentRefusal (known 64) (set-base 2147483648) ≡ 9) × (argumentRefusal (known 64) (set-base 2147483647) ≡ 0) × (argumentRefusal (known 64) take-front ≡ 0)
     × (argumentRefusal (known 64) (ask (get 5)) ≡ 0) × (argumentRefusal (known 64) (ask (successor-after 5)) ≡ 0) × (argumentRefusal (known 64) (ask (first-from 5)) ≡ 0)
     × (argumentRefusal (known 64) (ask (iter 64)) ≡ 0) × (argumentRefusal (known 64) (ask check) ≡ 0)
     × (argumentRefusal (known 64) (ask (stranger 5 4)) ≡ 5) × (argumentRefusal (known 64) (ask (stranger 0 63)) ≡ 0)
 unfolding rangeCount
-order = (refl, refl, refl, refl, refl, refl, refl, refl, refl, refl, refl, refl, refl, refl, refl, refl, refl, refl, refl, refl, refl, refl)
+order = (refl, refl, refl, refl, refl, refl, refl, refl, refl, refl, refl, refl, refl, refl, refl, refl, refl, refl, refl, refl, refl, refl, refl, refl, refl)

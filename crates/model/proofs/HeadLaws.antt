@@ -10,6 +10,7 @@ use Rattle.window.specs.Memory.{capacity}
 use Rattle.window.proofs.MemoryLaws.{size-le}
 use Rattle.model.specs.Calls.{Call, release-retired}
 use Rattle.model.specs.Table.{TableState}
+use Rattle.model.specs.Point.{pointOf}
 use Rattle.model.specs.Demand3.{times, copies, SamePairs, values, pairsBelow, Entry, callsOf, common, Head, History, Demand3}
 use Rattle.model.specs.Positions.{Positions, plain, retiredCount, step}
 use Rattle.model.specs.Refinement.{Refinement, Fresh}
@@ -68,6 +69,8 @@ module _ (size : ℕ) (size-small : size ≤ 65536) (H : Head) (Ok : H .State �
         once = x .once;
         count = x .count;
         held = x .held;
+        base = x .base ∙ ap (λ (t : TableState). t .base) (g .same);
+        point = x .point ∙ ap (λ (t : TableState). pointOf size (t .pairs) (t .base)) (g .same);
       }
 
   halves : (t : TableState) (u w : W) (e : Entry) (b : ℕ) → Good u t → H .Met u e w → e .call ≡ release-retired b true → b ≤ 256

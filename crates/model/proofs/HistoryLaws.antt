@@ -8,8 +8,9 @@ use native.Mathlib.Omega.{arith}
 use lib.ListN.{length, take}
 use Rattle.words.proofs.CaseLaws.{bool}
 use Rattle.window.specs.Memory.{capacity}
-use Rattle.model.specs.Calls.{Call, insert, exchange, remove, remove-range, clear, clear-bounded, release-retired, ask}
+use Rattle.model.specs.Calls.{Call, insert, exchange, remove, remove-range, clear, clear-bounded, release-retired, set-base, take-front, ask}
 use Rattle.model.specs.Table.{TableState, freshTable, known, argumentRefusal, Outcome, unlessRefused, tableStep, tableDoes}
+use Rattle.model.specs.Point.{pointOf}
 use Rattle.model.specs.Roles.{roleOf, toldOf}
 use Rattle.model.specs.Demand3.{times, copies, SamePairs, values, pairsBelow, lost, tableAfter, tableAnswers, tableEmptied, Entry, callsOf, common, answersOf, sharedOf, acceptedOf, handedBackOf, returnedOf, Visits, no-visit, visit, Head, History, begun, goes-on, stateAfter, After, Agree, Demand3}
 use Rattle.model.proofs.SumLaws.{times-append, no-length}
@@ -30,6 +31,8 @@ release-still size t (remove-range a b l) e = cc
 release-still size t (clear l) e = cc
 release-still size t (clear-bounded n l) e = cc
 release-still size t (release-retired b l) e = unless-still (argumentRefusal (known size) (release-retired b l)) t (tableDoes size t (release-retired b l)) refl
+release-still size t (set-base s) e = cc
+release-still size t take-front e = cc
 release-still size t (ask q) e = cc
 
 pub common-table : (size : ℕ) (t : TableState) (cs : List Call) → tableAfter size t (common cs) ≡ tableAfter size t cs
@@ -101,6 +104,8 @@ module _ (H : Head) where
       pub once : (s v : ℕ) → copies s v (H .pairs w) ≤ 1
       pub count : H .len w ≡ length (H .pairs w)
       pub held : H .retiredHeld w ≡ length (H .retired w)
+      pub base : H .base w ≡ t .base
+      pub point : H .point w ≡ pointOf size (t .pairs) (t .base)
 
     -- what is asked of a state with which a history may begin
     pub record Start (Good : W → TableState → Type 0) (w : W) : Type 0 where
@@ -158,6 +163,8 @@ module _ (H : Head) where
             answers = k .answers;
             whole = λ v. omega (arith, k .whole v, b .no-live v, b .no-retired v);
             held = s .held;
+            base = s .base;
+            point = s .point;
             emptied = λ v. omega (arith, k .emptied v, b .no-retired v);
             drained = λ visits n z vs i l. no-length (H .retired z) (visits-drain (tableAfter size freshTable (callsOf es)) (k .good) vs i l);
           }
@@ -177,6 +184,8 @@ module _ (H : Head) where
             same-answers =
                 history-keeps freshTable (i .good) g .shared ∙ ap (tableAnswers size freshTable) e ∙ sym (history-keeps freshTable (j .good) h .shared);
             same-pairs = λ s n. x .live s n ∙ ap (λ (t : TableState). copies s n (pairsBelow (capacity size) (t .pairs))) table ∙ sym (y .live s n);
+            same-base = x .base ∙ ap (λ (t : TableState). t .base) table ∙ sym (y .base);
+            same-point = x .point ∙ ap (λ (t : TableState). pointOf size (t .pairs) (t .base)) table ∙ sym (y .point);
           }
 
       -- at the ends by `histories-agree`, after each call by the same of the first calls

@@ -12,8 +12,8 @@ use borrow.Author.Tests.{eqb-true, leb-true, le-leb}
 use Rattle.words.proofs.CaseLaws.{bool}
 use Rattle.window.specs.Memory.{capacity, pageCount, position}
 use Rattle.window.proofs.MemoryLaws.{capacity-pages, position-lt}
-use Rattle.model.specs.Calls.{Call, insert, exchange, remove, remove-range, clear, clear-bounded, release-retired, ask, Answer, done, found, refused}
-use Rattle.model.specs.Table.{Pair, Table, fresh, at, held, valueIf, putAt, putAnswer, exchangeAt, removeAt, rangeCount, covers, heldInRange, known, argumentRefusal, withPairs, Outcome, outcome, tableAnswer, tableStep, tableDoes, unlessRefused as unlessInTable}
+use Rattle.model.specs.Calls.{Call, insert, exchange, remove, remove-range, clear, clear-bounded, release-retired, set-base, take-front, ask, Answer, done, found, refused}
+use Rattle.model.specs.Table.{Pair, Table, fresh, at, held, finds, valueIf, sequenceAt, putAt, putAnswer, exchangeAt, removeAt, rangeCount, covers, heldInRange, known, argumentRefusal, withPairs, withBase, Outcome, outcome, tableAnswer, tableStep, tableDoes, unlessRefused as unlessInTable}
 use Rattle.model.specs.Roles.{roleOf, toldOf, given, unlessRefused, ifFound}
 use Rattle.model.specs.Demand3.{times, lost}
 use Rattle.model.specs.Positions.{Positions, positions, plain, drain, release, wipe, moved, sweepRange, Result, result, stays, unlessRefused as unlessAtPositions, retiredCount, step, does, freshPositions}
@@ -126,6 +126,8 @@ module _ (size : ℕ) where
     quiet-refused (clear l) k a h = (refl, refl)
     quiet-refused (clear-bounded n l) k a h = (refl, refl)
     quiet-refused (release-retired b l) k a h = (refl, refl)
+    quiet-refused (set-base s) k a h = (refl, refl)
+    quiet-refused take-front k a h = subst (Quiet take-front) (Option·some-injective (refused k) a h) (refl, refl)
     quiet-refused (ask q) k a h = (refl, refl)
 
     -- a call that refuses k for its arguments, 0 for none
@@ -133,14 +135,14 @@ module _ (size : ℕ) where
     kept-unless c zero r o h = h refl
     kept-unless c (suc k) r o h = kept-still c (some (refused (suc k))) (quiet-refused c (suc k))
 
-    -- a call that changes one live position, and may return retired values
-    kept-at : (c : Call) (p : ℕ) (o : Option Pair) (u : Table) (l : List ℕ) (b : Answer) → ((a : Answer) → roleOf c .told a ≡ some a) → roleOf c .emptying ≡ false → p < cap
+    -- a call that changes one live position, may return retired values, and leaves the base n
+    kept-at : (c : Call) (p : ℕ) (o : Option Pair) (u : Table) (n : ℕ) (l : List ℕ) (b : Answer) → ((a : Answer) → roleOf c .told a ≡ some a) → roleOf c .emptying ≡ false → p < cap
         → held o + held (u p) ≤ 1 → ((q : ℕ) → held (u q) ≤ held (w .retired q))
         → ((v : ℕ) → times v (roleOf c .accepted b) + weigh (equals v) (w .live p) ≡ weigh (equals v) o + times v (roleOf c .handedBack b))
         → ((v : ℕ) → weight cap (equals v) u + times v l ≡ weight cap (equals v) (w .retired))
-        → Kept w c (result (positions (at (w .live) p o) u (w .cursor)) (some b) l) (outcome (withPairs (plain w) (at (w .live) p o)) b)
-    kept-at c p o u l b all emptying p-lt one less here there =
-        let r : Result = result (positions (at (w .live) p o) u (w .cursor)) (some b) l in
+        → Kept w c (result (positions (at (w .live) p o) u (w .cursor) n) (some b) l) (outcome (withBase (withPairs (plain w) (at (w .live) p o)) n) b)
+    kept-at c p o u n l b all emptying p-lt one less here there =
+        let r : Result = result (positions (at (w .live) p o) u (w .cursor) n) (some b) l in
         record {
           fit = record {
             beyond = λ q k. at-other (w .live) p o q (λ d. omega arith) ∙ f .beyond q k;
@@ -157,7 +159,7 @@ module _ (size : ℕ) where
     kept-emptying : (c : Call) (b : ℕ → Bool) (t u : Table) (n : ℕ) (l : List ℕ) (x y : Option Answer) → ((a : Answer) → Quiet c a) → roleOf c .emptying ≡ true
         → toldOf (roleOf c) x ≡ toldOf (roleOf c) y → ((q : ℕ) → t q ≡ cond (b q) none (w .live q)) → ((q : ℕ) → held (t q) + held (u q) ≤ 1) → n ≤ pages
         → ((v : ℕ) → weight cap (equals v) t + weight cap (equals v) u + times v l ≡ weight cap (equals v) (w .live) + weight cap (equals v) (w .retired))
-        → Kept w c (result (positions t u n) x l) (record { after = withPairs (plain w) (λ (q : ℕ). cond (b q) none (w .live q)); answer = y })
+        → Kept w c (result (positions t u n (w .base)) x l) (record { after = withPairs (plain w) (λ (q : ℕ). cond (b q) none (w .live q)); answer = y })
     kept-emptying c b t u n l x y quiet emptying e same apart cursor whole = record {
       fit = record { beyond = λ q k. same q ∙ cond-none (b q) (w .live q) (f .beyond q k); apart = apart; cursor = cursor };
       same = λ d. withPairs (plain w) (λ (q : ℕ). same q d);
@@ -207,7 +209,7 @@ module _ (size : ℕ) where
         let b = putAnswer s (w .live p) in
         let p-lt : p < cap = position-lt size s in
         let fits : a + 64 ≤ cap = omega (arith, capacity-pages size) in
-        kept-at (insert s v l) p o (d .left) (d .out) b (λ a. refl) refl p-lt
+        kept-at (insert s v l) p o (d .left) (w .base) (d .out) b (λ a. refl) refl p-lt
         (omega (arith, held-le o, ap held (drain-inside 64 a 64 (w .retired) p (omega arith) (omega arith) (omega arith))))
         (drain-less 64 a 64 (w .retired)) (λ x. put-balance s v x (w .live p)) (λ x. drain-times 64 a 64 x (w .retired) fits)
 
@@ -215,15 +217,21 @@ module _ (size : ℕ) where
     unfolding does tableDoes
     kept-exchange s v =
         let p = position size s in
-        kept-at (exchange s v) p (exchangeAt s v (w .live p)) (w .retired) [] (valueIf s (w .live p)) (λ a. refl) refl (position-lt size s)
+        kept-at (exchange s v) p (exchangeAt s v (w .live p)) (w .retired) (w .base) [] (valueIf s (w .live p)) (λ a. refl) refl (position-lt size s)
         (omega (arith, f .apart p, exchange-held s v (w .live p))) (λ q. omega arith) (λ x. exchange-balance s v x (w .live p)) (λ x. omega arith)
 
-    kept-remove : (s : ℕ) → Kept w (remove s) (does size w (remove s)) (tableDoes size (plain w) (remove s))
-    unfolding does tableDoes
-    kept-remove s =
+    -- a call that takes one sequence out of its position, and hands its value back
+    kept-taken : (c : Call) (s n : ℕ) → ((a : Answer) → roleOf c .told a ≡ some a) → roleOf c .emptying ≡ false
+        → ((a : Answer) → roleOf c .accepted a ≡ []) → ((a : Answer) → roleOf c .handedBack a ≡ given a)
+        → let p = position size s in
+        Kept w c (stays (positions (at (w .live) p (removeAt s (w .live p))) (w .retired) (w .cursor) n) (some (valueIf s (w .live p))))
+        (outcome (withBase (withPairs (plain w) (at (w .live) p (removeAt s (w .live p)))) n) (valueIf s (w .live p)))
+    kept-taken c s n all emptying none-accepted gives =
         let p = position size s in
-        kept-at (remove s) p (removeAt s (w .live p)) (w .retired) [] (valueIf s (w .live p)) (λ a. refl) refl (position-lt size s)
-        (omega (arith, f .apart p, remove-held s (w .live p))) (λ q. omega arith) (λ x. omega (arith, remove-balance s x (w .live p))) (λ x. omega arith)
+        let a = valueIf s (w .live p) in
+        kept-at c p (removeAt s (w .live p)) (w .retired) n [] a all emptying (position-lt size s)
+        (omega (arith, f .apart p, remove-held s (w .live p))) (λ q. omega arith)
+        (λ x. omega (arith, remove-balance s x (w .live p), ap (times x) (none-accepted a), ap (times x) (gives a))) (λ x. omega arith)
 
     kept-clear : (l : Bool) → Kept w (clear l) (does size w (clear l)) (tableDoes size (plain w) (clear l))
     unfolding does tableDoes
@@ -284,15 +292,30 @@ module _ (size : ℕ) where
           emptied = λ v. omega (arith, release-times b v (w .retired) (w .cursor) (f .cursor));
         }
 
+    -- the base alone
+    kept-set : (s : ℕ) → Kept w (set-base s) (does size w (set-base s)) (tableDoes size (plain w) (set-base s))
+    unfolding does tableDoes
+    kept-set s = record {
+      fit = record { beyond = f .beyond; apart = f .apart; cursor = f .cursor };
+      same = refl;
+      answer = refl;
+      whole = λ a h v. omega arith;
+      emptied = λ v. omega arith;
+    }
+
     kept-does : size ≤ cap → (c : Call) → argumentRefusal (known size) c ≡ 0 → Kept w c (does size w c) (tableDoes size (plain w) c)
     unfolding does tableDoes
     kept-does small (insert s v l) z = kept-insert s v l
     kept-does small (exchange s v) z = kept-exchange s v
-    kept-does small (remove s) z = kept-remove s
+    kept-does small (remove s) z = kept-taken (remove s) s (w .base) (λ a. refl) refl (λ a. refl) (λ a. refl)
     kept-does small (remove-range a b l) z = kept-range small a b l (range-taken size a b l z)
     kept-does small (clear l) z = kept-clear l
     kept-does small (clear-bounded n l) z = kept-bounded n l
     kept-does small (release-retired b l) z = kept-release b l
+    kept-does small (set-base s) z = kept-set s
+    kept-does small take-front z =
+        let s = w .base in
+        kept-taken take-front s (cond (finds s (w .live (position size s))) (sequenceAt s 1) s) (λ a. refl) refl (λ a. refl) (λ a. refl)
     kept-does small (ask q) z = kept-still (ask q) (tableAnswer size (plain w) q) (λ a h. (refl, refl))
 
     -- every call at fit positions keeps what demand 3 asks

@@ -8,7 +8,7 @@ use Rattle.model.specs.Calls.{Call, refused}
 use Rattle.model.specs.Table.{TableState, outcome, tableStep, tableDoes, unlessRefused as unlessInTable, Outcome, argumentRefusal}
 use Rattle.model.specs.Positions.{Positions, stays, step, does, unlessRefused as unlessAtPositions, Result}
 use Rattle.model.specs.Window.{Window, sizeOf}
-use Rattle.model.specs.Steps.{effect, knownBy, unlessRefused, windowStep, windowDoes, Effect}
+use Rattle.model.specs.Steps.{effect, knownBy, unlessRefused, windowStep, windowActs, Effect}
 
 -- what refusing k means in each of the three
 pub record Refuse (k : ℕ) (t : TableState) (p : Positions) (w : Window) (o : Outcome) (r : Result) (e : Effect) : Type 0 where
@@ -23,4 +23,4 @@ module _ (t : TableState) (p : Positions) (w : Window) where
 
   pub one-order : (c : Call) → (argumentRefusal (knownBy (w .header)) c ≡ 0 → ⊥)
       → Refuse (argumentRefusal (knownBy (w .header)) c) t p w (tableStep (sizeOf w) t c) (step (sizeOf w) p c) (windowStep w c)
-  one-order c h = refusing (argumentRefusal (knownBy (w .header)) c) (tableDoes (sizeOf w) t c) (does (sizeOf w) p c) (windowDoes w c) h
+  one-order c h = refusing (argumentRefusal (knownBy (w .header)) c) (tableDoes (sizeOf w) t c) (does (sizeOf w) p c) (windowActs w c) h

@@ -1,4 +1,4 @@
--- The calls of document 01 and what they answer. Definitions only. Assumes nothing.
+-- The calls of documents 01 and 02 and what they answer. Definitions only. Assumes nothing.
 use mathlib.Core.Bool.{Bool}
 use Prim.Native.Nat.{ℕ}
 
@@ -20,11 +20,13 @@ pub data Call : Type 0 where
   clear : (listed : Bool) → Call
   clear-bounded : (number : ℕ) (listed : Bool) → Call
   release-retired : (budget : ℕ) (listed : Bool) → Call
+  set-base : (sequence : ℕ) → Call
+  take-front : Call
   ask : (query : Query) → Call
 
 -- What a call answers, beside its return list.
 pub data Answer : Type 0 where
-  -- nothing to tell: clear; check of a sound state; iter from where no pair is left
+  -- nothing to tell: clear, set_base; check of a sound state; iter from where no pair is left
   done : Answer
   -- insert put a new pair
   new : Answer
@@ -32,7 +34,7 @@ pub data Answer : Type 0 where
   replaced : (value : ℕ) → Answer
   -- no such sequence, no live pair, no stranger
   absent : Answer
-  -- a value (get, exchange, remove), a sequence (successor_after, first_from), a number (remove_range, clear_bounded)
+  -- a value (get, exchange, remove, take_front), a sequence (successor_after, first_from), a number (remove_range, clear_bounded)
   found : (number : ℕ) → Answer
   -- a pair and the cell after it (iter); a pair and 0 (stranger)
   pair : (sequence value next : ℕ) → Answer

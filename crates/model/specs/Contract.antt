@@ -13,7 +13,7 @@ use Rattle.model.specs.Roles.{roleOf}
 use Rattle.model.specs.Table.{first, argumentRefusal}
 use Rattle.model.specs.Window.{Window, decode}
 use Rattle.model.specs.Steps.{Effect, knownBy, windowStep}
-use Rattle.model.specs.Sound.{Sound}
+use Rattle.model.specs.Sound.{SoundWithPoint}
 
 -- header and lent memory
 pub record State : Type 0 where
@@ -70,7 +70,8 @@ module _ (step : Window → Call → Effect) (Ok : Window → Type 0) where
 
   -- a call c on state u with the return list l leaves r
   pub record MeetsAs (c : Call) (u : State) (l : List ℕ) (r : Left) : Type 0 where
-    -- "Refusals 1 to 6 and 8 leave header and all lists as they came."
+    -- "Refusals 1 to 6 and 8 leave header and all lists as they came."; "Refusals that requests add leave header and all lists as they
+    -- came unless said; those decided without the state come on an unsound one too"
     pub refuses : (refusal u c ≡ 0 → ⊥) → (r .answer ≡ refused (refusal u c)) × Unaltered u l r
     -- "For a sound state each exported call's answer, header, page and block words, cells in use and return list equal a definition"
     pub sound : refusal u c ≡ 0 → Ok (windowOf u) → DoesAs c (windowOf u) r
@@ -90,7 +91,7 @@ module _ (step : Window → Call → Effect) (Ok : Window → Type 0) where
 
 -- the contract of every exported call: the whole step, on sound windows
 abbrev pub Does : Call → Window → Left → Type 0
-Does = DoesAs windowStep Sound
+Does = DoesAs windowStep SoundWithPoint
 
 abbrev pub Meets : Call → State → List ℕ → Left → Type 0
-Meets = MeetsAs windowStep Sound
+Meets = MeetsAs windowStep SoundWithPoint

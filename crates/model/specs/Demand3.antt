@@ -10,6 +10,7 @@ use lib.ListN.{length, take}
 use Rattle.window.specs.Memory.{capacity}
 use Rattle.model.specs.Calls.{Call, release-retired, Answer}
 use Rattle.model.specs.Table.{Pair, Table, TableState, freshTable, tableStep}
+use Rattle.model.specs.Point.{pointOf}
 use Rattle.model.specs.Roles.{roleOf, toldOf}
 
 -- ---- counting with repeats
@@ -128,6 +129,9 @@ pub record Head : Type 1 where
   pub retired : State → List ℕ
   pub retiredHeld : State → ℕ
   pub len : State → ℕ
+  -- document 02, S-1: "Keep in the header a base .. and a point"
+  pub base : State → ℕ
+  pub point : State → ℕ
 
 module _ (H : Head) where
   -- "Each call gets header and memory as the last left them; nobody else writes them."
@@ -158,6 +162,10 @@ module _ (H : Head) where
       pub held : H .retiredHeld w ≡ length (H .retired w)
       -- "with those in all return lists they are exactly the values that remove_range, clear and clear_bounded emptied in the table"
       pub emptied : (v : ℕ) → times v (H .retired w) + times v (returnedOf es) ≡ times v (tableEmptied size freshTable (callsOf es))
+      -- document 02, S-1: "the plain table .., which keeps the base too"; "After every call on a sound state the point equals one worked
+      -- out afresh"
+      pub base : H .base w ≡ tableAfter size freshTable (callsOf es) .base
+      pub point : H .point w ≡ pointOf size (tableAfter size freshTable (callsOf es) .pairs) (tableAfter size freshTable (callsOf es) .base)
       -- "the budgets' halves rounded down adding up to at least the retired count, leave none retired"
       pub drained : (visits : List Entry) (halves : ℕ) (z : H .State) → Visits visits halves → History w visits z → length (H .retired w) ≤ halves → H .retired z ≡ []
 
@@ -169,6 +177,8 @@ module _ (H : Head) where
       -- and whether stranger gives a pair
       pub same-answers : sharedOf xs ≡ sharedOf ys
       pub same-pairs : SamePairs (H .pairs v) (H .pairs w)
+      pub same-base : H .base v ≡ H .base w
+      pub same-point : H .point v ≡ H .point w
 
     -- two histories of one common list: at their ends, and after each call of either. For each place in the one there is a place in
     -- the other where the same calls of the common list were made, and at any two such places the heads agree.

@@ -13,7 +13,7 @@ use Rattle.model.specs.Roles.{roleOf}
 use Rattle.model.specs.Table.{Pair}
 use Rattle.model.specs.Demand3.{Entry, Head, History, callsOf, common, Demand3}
 use Rattle.model.specs.Window.{livePairs, retiredValues}
-use Rattle.model.specs.Sound.{Sound}
+use Rattle.model.specs.Sound.{SoundWithPoint}
 use Rattle.model.specs.Contract.{State, windowOf, Left, Meets}
 
 -- the return list of a call, of which it tells whether it has 384 places; a call that takes none gets the empty list
@@ -51,16 +51,24 @@ heldOf u = u .header .«retired_held»
 abbrev pub lenOf : State → ℕ
 lenOf u = u .header .len
 
+abbrev pub baseOf : State → ℕ
+baseOf u = u .header .base
+
+abbrev pub pointIn : State → ℕ
+pointIn u = u .header .point
+
 -- a head with this window
 abbrev pub head : Head
 head = record {
   State = State;
   Met = Stepped;
-  Sound = λ (u : State). Sound (windowOf u);
+  Sound = λ (u : State). SoundWithPoint (windowOf u);
   pairs = pairsOf;
   retired = retiredOf;
   retiredHeld = heldOf;
   len = lenOf;
+  base = baseOf;
+  point = pointIn;
 }
 
 -- demand 3: for every two heads of one window_size and every two histories of one common list

@@ -1,4 +1,4 @@
--- The window seen from its positions: what is live, what is retired and still held, and where the next release begins. Kinds of
+-- The window seen from its positions: what is live, what is retired and still held, where the next release begins, the base. Kinds of
 -- pages, cells, marks, N and demote_at are left out: nothing here depends on them. The layer between the window and the plain
 -- table; definitions only. Assumes nothing.
 use mathlib.Core.Bool.{Bool, true, false, cond}
@@ -9,20 +9,21 @@ use lib.Dec.{leb, ltb, eqb}
 use lib.ListN.{length}
 use Rattle.words.specs.First.{firstRound}
 use Rattle.window.specs.Memory.{capacity, pageCount, position}
-use Rattle.model.specs.Calls.{Call, insert, exchange, remove, remove-range, clear, clear-bounded, release-retired, ask, Answer, done, found, released, refused}
-use Rattle.model.specs.Table.{Pair, Table, fresh, at, held, valueIf, putAt, putAnswer, exchangeAt, removeAt, rangeCount, known, argumentRefusal, within, sum, heldInRange, TableState, tableAnswer}
+use Rattle.model.specs.Calls.{Call, insert, exchange, remove, remove-range, clear, clear-bounded, release-retired, set-base, take-front, ask, Answer, done, found, released, refused}
+use Rattle.model.specs.Table.{Pair, Table, fresh, at, held, valueIf, finds, sequenceAt, putAt, putAnswer, exchangeAt, removeAt, rangeCount, known, argumentRefusal, within, sum, heldInRange, TableState, tableAnswer}
 
 pub record Positions : Type 0 where
   pub live : Table
   pub retired : Table
   pub cursor : ℕ
+  pub base : ℕ
 
-abbrev pub positions : Table → Table → ℕ → Positions
-positions live retired cursor = record { live = live; retired = retired; cursor = cursor }
+abbrev pub positions : Table → Table → (cursor base : ℕ) → Positions
+positions live retired cursor base = record { live = live; retired = retired; cursor = cursor; base = base }
 
 -- what the plain table has of them
 abbrev pub plain : Positions → TableState
-plain w = record { pairs = w .live }
+plain w = record { pairs = w .live; base = w .base }
 
 -- ---- taking pairs out
 
@@ -147,16 +148,16 @@ abbrev pub retiredCount : ℕ → Positions → ℕ
 retiredCount cap w = sum cap (λ (q : ℕ). held (w .retired q))
 
 -- a call that ends in a release with 256 from cursor c, the values `out` returned before it
-abbrev pub thenRelease : ℕ → Table → Table → ℕ → List ℕ → Answer → Result
-thenRelease pages live retired c out a =
+abbrev pub thenRelease : ℕ → Table → Table → (cursor base : ℕ) → List ℕ → Answer → Result
+thenRelease pages live retired c base out a =
     let r = release pages 256 256 retired c in
-    result (positions live (r .retired) (r .cursor)) (some a) (out ++ r .out)
+    result (positions live (r .retired) (r .cursor) base) (some a) (out ++ r .out)
 
 abbrev pub rangeStep : ℕ → Positions → ℕ → ℕ → Result
 rangeStep size w start count =
     let s = sweepRange (capacity size) start count (w .live) (w .retired) in
     thenRelease (pageCount size) (s .live) (s .retired)
-    (cond (ltb 0 (retiredCount (capacity size) w)) (w .cursor) (start / 64)) (s .out)
+    (cond (ltb 0 (retiredCount (capacity size) w)) (w .cursor) (start / 64)) (w .base) (s .out)
     (found (heldInRange (capacity size) start count (w .live)))
 
 -- what a call does that is not refused for its arguments
@@ -164,25 +165,31 @@ unfoldable pub does : ℕ → Positions → Call → Result
 does size w (insert s v listed) =
     let p = position size s in
     let d = drain 64 (64 * (p / 64)) 64 (w .retired) in
-    result (positions (at (w .live) p (putAt s v (w .live p))) (d .left) (w .cursor)) (some (putAnswer s (w .live p))) (d .out)
+    result (positions (at (w .live) p (putAt s v (w .live p))) (d .left) (w .cursor) (w .base)) (some (putAnswer s (w .live p))) (d .out)
 does size w (exchange s v) =
     let p = position size s in
-    stays (positions (at (w .live) p (exchangeAt s v (w .live p))) (w .retired) (w .cursor)) (some (valueIf s (w .live p)))
+    stays (positions (at (w .live) p (exchangeAt s v (w .live p))) (w .retired) (w .cursor) (w .base)) (some (valueIf s (w .live p)))
 does size w (remove s) =
     let p = position size s in
-    stays (positions (at (w .live) p (removeAt s (w .live p))) (w .retired) (w .cursor)) (some (valueIf s (w .live p)))
+    stays (positions (at (w .live) p (removeAt s (w .live p))) (w .retired) (w .cursor) (w .base)) (some (valueIf s (w .live p)))
 does size w (remove-range a b listed) = rangeStep size w (position size a) (rangeCount a b)
-does size w (clear listed) = thenRelease (pageCount size) fresh (moved 0 (capacity size) (w .live) (w .retired)) (w .cursor) [] done
+does size w (clear listed) = thenRelease (pageCount size) fresh (moved 0 (capacity size) (w .live) (w .retired)) (w .cursor) (w .base) [] done
 does size w (clear-bounded n listed) =
     let d = drain (capacity size) 0 n (moved 0 (capacity size) (w .live) (w .retired)) in
-    result (positions fresh (d .left) (w .cursor)) (some (found (length (d .out)))) (d .out)
+    result (positions fresh (d .left) (w .cursor) (w .base)) (some (found (length (d .out)))) (d .out)
 does size w (release-retired b listed) =
     let r = release (pageCount size) b b (w .retired) (w .cursor) in
-    result (positions (w .live) (r .retired) (r .cursor)) (some (released (length (r .out)) (r .units))) (r .out)
+    result (positions (w .live) (r .retired) (r .cursor) (w .base)) (some (released (length (r .out)) (r .units))) (r .out)
+does size w (set-base s) = stays (positions (w .live) (w .retired) (w .cursor) s) (some done)
+does size w take-front =
+    let s = w .base in
+    let p = position size s in
+    stays (positions (at (w .live) p (removeAt s (w .live p))) (w .retired) (w .cursor) (cond (finds s (w .live p)) (sequenceAt s 1) s))
+    (some (valueIf s (w .live p)))
 does size w (ask q) = stays w (tableAnswer size (plain w) q)
 
 abbrev pub step : ℕ → Positions → Call → Result
 step size w c = unlessRefused (argumentRefusal (known size) c) w (does size w c)
 
 abbrev pub freshPositions : Positions
-freshPositions = positions fresh fresh 0
+freshPositions = positions fresh fresh 0 0

@@ -5,6 +5,7 @@ use Prim.Native.Nat.{ℕ, _≤_}
 use lib.ListN.{length}
 use Rattle.window.specs.Memory.{capacity}
 use Rattle.model.specs.Roles.{roleOf, toldOf}
+use Rattle.model.specs.Point.{pointOf}
 use Rattle.model.specs.Demand3.{Entry, SamePairs, copies, pairsBelow, values, times, Head}
 use Rattle.model.specs.Positions.{Positions, freshPositions, retiredCount, step}
 
@@ -18,6 +19,8 @@ module _ (size : ℕ) (H : Head) (Ok : H .State → Type 0) (positionsOf : H .St
     pub retired-values : (v : ℕ) → times v (H .retired w) ≡ times v (values (pairsBelow (capacity size) (positionsOf w .retired)))
     pub count : H .len w ≡ length (H .pairs w)
     pub held : H .retiredHeld w ≡ length (H .retired w)
+    pub base : H .base w ≡ positionsOf w .base
+    pub point : H .point w ≡ pointOf size (positionsOf w .live) (positionsOf w .base)
     pub retired-count : length (H .retired w) ≡ retiredCount (capacity size) (positionsOf w)
 
   pub record Refines (u : H .State) (e : Entry) (v : H .State) : Type 0 where

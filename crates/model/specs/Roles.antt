@@ -4,7 +4,7 @@ use mathlib.Core.Bool.{Bool, true, false}
 use mathlib.Core.Option.{Option, none, some}
 use mathlib.Core.List.{List, [], _∷_}
 use Prim.Native.Nat.{ℕ}
-use Rattle.model.specs.Calls.{Query, get, successor-after, first-from, iter, stranger, check, Call, insert, exchange, remove, remove-range, clear, clear-bounded, release-retired, ask, Answer, done, new, replaced, absent, found, pair, released, refused}
+use Rattle.model.specs.Calls.{Query, get, successor-after, first-from, iter, stranger, check, Call, insert, exchange, remove, remove-range, clear, clear-bounded, release-retired, set-base, take-front, ask, Answer, done, new, replaced, absent, found, pair, released, refused}
 
 -- ---- the arguments that a refusal looks at
 
@@ -13,6 +13,7 @@ pub data Arguments : Type 0 where
   sequence-argument : ℕ → Arguments
   range-argument : (first last : ℕ) → Arguments
   number-argument : ℕ → Arguments
+  base-argument : ℕ → Arguments
 
 -- ---- what an answer says of values
 
@@ -90,7 +91,8 @@ pub record Role : Type 0 where
   pub told : Answer → Option Answer
   -- "Accepted in demand 3 are the values of inserts not refused and of exchanges that found their sequence"
   pub accepted : Answer → List ℕ
-  -- "handed back are old values given by insert and exchange, values given by remove" (and all return lists)
+  -- "handed back are old values given by insert and exchange, values given by remove" (and all return lists); of take_front: "its
+  -- value is handed back"
   pub handedBack : Answer → List ℕ
   -- "the values that remove_range, clear and clear_bounded emptied in the table"
   pub emptying : Bool
@@ -138,6 +140,8 @@ roleOf (remove-range a b listed) = role (range-argument a b) (some listed) whole
 roleOf (clear listed) = role no-argument (some listed) whole nothing nothing true false false
 roleOf (clear-bounded n listed) = role (number-argument n) (some listed) ifRefused nothing nothing true false false
 roleOf (release-retired b listed) = role (number-argument b) (some listed) ifRefused nothing nothing false true false
+roleOf (set-base s) = role (base-argument s) none whole nothing nothing false false false
+roleOf take-front = role no-argument none whole nothing given false false false
 roleOf (ask q) = role (askedOf q .arguments) none (askedOf q .told) nothing nothing false false (askedOf q .checks)
 
 -- what is told of an answer that may not be in the table

@@ -1,4 +1,5 @@
--- What a sound state is: document 01's sentence on `check`, clause by clause. Definitions only. Assumes nothing.
+-- What a sound state is: document 01's sentence on `check`, clause by clause, and what document 02 adds. Definitions only.
+-- Assumes nothing.
 use mathlib.Core.Path.{_≡_}
 use mathlib.Core.Bool.{true, false, cond, not}
 use Prim.Native.Nat.{ℕ, _+_, _*_, _/_, _%_, _^_, _≤_, _<_}
@@ -7,7 +8,7 @@ use Rattle.words.specs.Word.{bitAt}
 use Rattle.window.specs.Refusals.{Within}
 use Rattle.model.specs.Table.{sum}
 use Rattle.model.specs.Demand3.{one}
-use Rattle.model.specs.Window.{Page, Window, capacityOf, pagesOf, blocksOf, isRetired}
+use Rattle.model.specs.Window.{Page, Window, capacityOf, pagesOf, blocksOf, isRetired, pointFor}
 use Rattle.model.specs.Pages.{valuesIn, holdsValue}
 
 -- cell c of the page is in use
@@ -71,3 +72,10 @@ pub record Sound (w : Window) : Type 0 where
   -- the words have 64 bits
   pub nonempty-fits : (b : ℕ) → w .blocks b .nonempty < 2 ^ 64
   pub retired-fits : (b : ℕ) → w .blocks b .retired < 2 ^ 64
+
+-- document 02, S-1: "After every call on a sound state the point equals one worked out afresh, and check requires that and a base
+-- below 2147483648"
+pub record SoundWithPoint (w : Window) : Type 0 where
+  pub sound : Sound w
+  pub base : w .header .base < 2 ^ 31
+  pub point : w .header .point ≡ pointFor w

@@ -1,5 +1,5 @@
--- What each call does to the window. Document 01, 'Masks and search', 'Range removal', 'Release', 'Beside the port'. On a sound
--- window; the refusals for arguments come first. Definitions only. Assumes nothing.
+-- What each call does to the window. Document 01, 'Masks and search', 'Range removal', 'Release', 'Beside the port'; document 02, S-1.
+-- On a sound window; the refusals for arguments come first. Definitions only. Assumes nothing.
 use mathlib.Core.Bool.{Bool, true, false, cond, not, _&&_, _||_}
 use mathlib.Core.Option.{Option, none, some}
 use mathlib.Core.List.{List, [], _++_}
@@ -10,10 +10,10 @@ use Rattle.words.specs.First.{firstRound}
 use Rattle.words.specs.Word.{isSet, withBit, setBit, clearBit, wordOf, span}
 use Rattle.window.specs.declared.AdaptiveReceiverPacketWindow.{AdaptiveReceiverPacketWindow}
 use Rattle.window.specs.Memory.{position}
-use Rattle.model.specs.Calls.{Query, get, successor-after, first-from, iter, stranger, check, Call, insert, exchange, remove, remove-range, clear, clear-bounded, release-retired, ask, Answer, done, new, replaced, absent, found, pair, released, refused}
-use Rattle.model.specs.Table.{Pair, valueIf, finds, rangeCount, within, sum, heldInRange, searchFrom, strangerIn, Known, known, argumentRefusal}
+use Rattle.model.specs.Calls.{Query, get, successor-after, first-from, iter, stranger, check, Call, insert, exchange, remove, remove-range, clear, clear-bounded, release-retired, set-base, take-front, ask, Answer, done, new, replaced, absent, found, pair, released, refused}
+use Rattle.model.specs.Table.{Pair, valueIf, finds, sequenceAt, rangeCount, within, sum, heldInRange, searchFrom, strangerIn, Known, known, argumentRefusal}
 use Rattle.model.specs.Demand3.{one}
-use Rattle.model.specs.Window.{Page, Block, Window, window, upd, sizeOf, capacityOf, pagesOf, blocksOf, cellOf, isRetired, liveAt, iterStep}
+use Rattle.model.specs.Window.{Page, Block, Window, window, upd, sizeOf, capacityOf, pagesOf, blocksOf, cellOf, isRetired, liveAt, pointFor, iterStep}
 use Rattle.model.specs.Pages.{valuesIn, holdsValue, setValue, takeCell, unlessEmptied, demotes, afterRemoval, insertPage, drainPage}
 
 -- ---- changes of the header, one field each
@@ -377,6 +377,13 @@ clearBoundedStep w n = let r = releasePages (pagesOf w) 0 n (retireAll w) in eff
 unfoldable pub releaseStep : Window → ℕ → Effect
 releaseStep w b = let r = release b w in effect (r .after) (released (length (r .out)) (r .units)) (r .out)
 
+-- document 02, S-1: "Taking the front value removes the base's value and moves the base by one; if it is absent, nothing moves"
+unfoldable pub frontStep : Window → Effect
+frontStep w =
+    let s = w .header .base in
+    let r = removeStep w s in
+    effect (cond (finds s (liveHere w s)) (withHeader (r .after) (setBase (r .after .header) (sequenceAt s 1))) w) (r .answer) (r .returned)
+
 -- what a query is answered
 abbrev pub windowAnswer : Window → Query → Answer
 windowAnswer w (get s) = valueIf s (liveHere w s)
@@ -386,7 +393,7 @@ windowAnswer w (iter cell) = iterStep w cell
 windowAnswer w (stranger a b) = strangerIn (sizeOf w) (liveAt w) a b
 windowAnswer w check = done
 
--- what a call does that is not refused for its arguments
+-- what a call does that is not refused for its arguments, the point left as it is
 unfoldable pub windowDoes : Window → Call → Effect
 windowDoes w (insert s v listed) = insertStep w s v
 windowDoes w (exchange s v) = exchangeStep w s v
@@ -395,11 +402,20 @@ windowDoes w (remove-range a b listed) = rangeStep w (position (sizeOf w) a) (ra
 windowDoes w (clear listed) = clearStep w
 windowDoes w (clear-bounded n listed) = clearBoundedStep w n
 windowDoes w (release-retired b listed) = releaseStep w b
+windowDoes w (set-base s) = effect (withHeader w (setBase (w .header) s)) done []
+windowDoes w take-front = frontStep w
 windowDoes w (ask q) = effect w (windowAnswer w q) []
 
 -- what refusals for arguments look at
 abbrev pub knownBy : AdaptiveReceiverPacketWindow → Known
 knownBy h = known (h .«window_size»)
 
+-- document 02, S-1: "After every call on a sound state the point equals one worked out afresh"
+abbrev pub repoint : Window → Window
+repoint w = withHeader w (setPoint (w .header) (pointFor w))
+
+abbrev pub windowActs : Window → Call → Effect
+windowActs w c = let e = windowDoes w c in effect (repoint (e .after)) (e .answer) (e .returned)
+
 abbrev pub windowStep : Window → Call → Effect
-windowStep w c = unlessRefused (argumentRefusal (knownBy (w .header)) c) w (windowDoes w c)
+windowStep w c = unlessRefused (argumentRefusal (knownBy (w .header)) c) w (windowActs w c)

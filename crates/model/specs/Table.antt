@@ -1,12 +1,12 @@
--- Document 01, 'The plain table'. It is fed window_size and the calls' arguments alone. Definitions only. Assumes nothing.
+-- Document 01, 'The plain table', and the base of document 02, S-1. It is fed window_size and the calls' arguments alone. Definitions only. Assumes nothing.
 use mathlib.Core.Bool.{Bool, true, false, cond, _&&_, _||_}
 use mathlib.Core.Option.{Option, none, some}
 use Prim.Native.Nat.{ℕ, zero, suc, _+_, _-_, _%_, _^_}
 use lib.Dec.{leb, ltb, eqb}
 use Rattle.words.specs.First.{firstRound}
 use Rattle.window.specs.Memory.{capacity, position}
-use Rattle.model.specs.Calls.{Query, get, successor-after, first-from, iter, stranger, check, Call, insert, exchange, remove, remove-range, clear, clear-bounded, release-retired, ask, Answer, done, new, replaced, absent, found, pair, refused}
-use Rattle.model.specs.Roles.{Arguments, no-argument, sequence-argument, range-argument, number-argument, roleOf}
+use Rattle.model.specs.Calls.{Query, get, successor-after, first-from, iter, stranger, check, Call, insert, exchange, remove, remove-range, clear, clear-bounded, release-retired, set-base, take-front, ask, Answer, done, new, replaced, absent, found, pair, refused}
+use Rattle.model.specs.Roles.{Arguments, no-argument, sequence-argument, range-argument, number-argument, base-argument, roleOf}
 
 pub record Pair : Type 0 where
   pub sequence : ℕ
@@ -142,12 +142,13 @@ abbrev pub first : ℕ → Bool → ℕ → ℕ
 first k taken rest = cond taken rest k
 
 -- "remove_range, stranger: then 5 for a count above window_size"; "release_retired, clear_bounded: then 8 for a number above 256".
--- (Insert's 4 is decided by the window.)
+-- "9, a base of 2147483648 or more, after 6". (Insert's 4 is decided by the window.)
 abbrev pub refusedFor : Known → Arguments → ℕ
 refusedFor k no-argument = 0
 refusedFor k (sequence-argument s) = 0
 refusedFor k (range-argument a b) = first 5 (leb (rangeCount a b) (k .size)) 0
 refusedFor k (number-argument n) = first 8 (leb n 256) 0
+refusedFor k (base-argument s) = first 9 (ltb s (2 ^ 31)) 0
 
 -- "a return list of at least 384"
 abbrev pub hasPlaces : Option Bool → Bool
@@ -160,16 +161,21 @@ argumentRefusal k c = first 6 (hasPlaces (roleOf c .listed)) (refusedFor k (role
 
 -- ---- the calls
 
--- "State: at each position nothing (as when fresh) or one (sequence, value)."
+-- "State: at each position nothing (as when fresh) or one (sequence, value)."; "the plain table, which keeps the base too"
 pub record TableState : Type 0 where
   pub pairs : Table
+  pub base : ℕ
 
+-- "a base, 0 at first"
 abbrev pub freshTable : TableState
-freshTable = record { pairs = fresh }
+freshTable = record { pairs = fresh; base = 0 }
 
--- other pairs, and the rest as it is
+-- other pairs, or another base, and the rest as it is
 abbrev pub withPairs : TableState → Table → TableState
-withPairs t p = record { pairs = p }
+withPairs t p = record { pairs = p; base = t .base }
+
+abbrev pub withBase : TableState → ℕ → TableState
+withBase t b = record { pairs = t .pairs; base = b }
 
 -- what is at a sequence's position; the table with something else there
 abbrev pub here : ℕ → TableState → ℕ → Option Pair
@@ -221,6 +227,14 @@ tableDoes size t (clear listed) = outcome (withPairs t fresh) done
 tableDoes size t (clear-bounded n listed) = untold (withPairs t fresh)
 -- "release_retired, iter, stranger, check: no step", nor get, successor_after, first_from
 tableDoes size t (release-retired b listed) = untold t
+-- "a base, 0 at first and set by the caller"
+tableDoes size t (set-base s) = outcome (withBase t s) done
+-- "Taking the front value removes the base's value and moves the base by one; if it is absent, nothing moves. In the plain table
+-- .. this is a remove of the base"
+tableDoes size t take-front =
+    let s = t .base in
+    let o = here size t s in
+    outcome (withBase (put size t s (removeAt s o)) (cond (finds s o) (sequenceAt s 1) s)) (valueIf s o)
 tableDoes size t (ask q) = record { after = t; answer = tableAnswer size t q }
 
 abbrev pub tableStep : ℕ → TableState → Call → Outcome

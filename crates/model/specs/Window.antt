@@ -13,6 +13,7 @@ use Rattle.window.specs.Memory.{Memory, capacity, pageCount, blockCount, pageWo
 use Rattle.window.specs.New.{fresh}
 use Rattle.model.specs.Calls.{Answer, done, new, replaced, absent, found, pair, released, refused}
 use Rattle.model.specs.Table.{Pair, pairOf, Table}
+use Rattle.model.specs.Point.{pointOf}
 
 -- "Page words: kind (0 none, 1 sparse, 2 dense), occupied (bit p: position p of the page has a value), filled (bit c: cell c is in
 -- use)"; then its 64 cells, each a sequence and a value. A cell not in use may hold anything, and the definitions say what.
@@ -116,6 +117,10 @@ liveAt w q = cond (isRetired w (q / 64)) none (standsAt (w .pages (q / 64)) (q %
 
 abbrev pub retiredAt : Window → Table
 retiredAt w q = cond (isRetired w (q / 64)) (standsAt (w .pages (q / 64)) (q % 64)) none
+
+-- document 02, S-1: the acknowledge point, worked out afresh
+abbrev pub pointFor : Window → ℕ
+pointFor w = pointOf (sizeOf w) (liveAt w) (w .header .base)
 
 -- ---- iter, and what is seen of a window
 
