@@ -2,17 +2,17 @@
 use mathlib.Core.Path.{_≡_, refl, sym, ap, _∙_}
 use mathlib.Core.Bool.{Bool, true, false, cond, true≢false, _&&_}
 use mathlib.Core.Option.{Option, none, some}
-use Prim.Native.Nat.{ℕ, zero, suc, _+_, _-_, _%_}
+use Prim.Native.Nat.{ℕ, zero, suc, _+_, _-_, _%_, _^_}
 use lib.Dec.{eqb, leb, ltb}
 use Rattle.words.proofs.CaseLaws.{bool}
 use Rattle.words.specs.First.{firstFrom, firstRound}
 use Rattle.window.specs.Memory.{position}
-use Rattle.model.specs.Calls.{Query, get, successor-after, first-from, iter, stranger, check, Call, insert, exchange, remove, remove-range, clear, clear-bounded, release-retired, ask, Answer, done, new, replaced, absent, found, pair, released, refused}
-use Rattle.model.specs.Roles.{Arguments, no-argument, sequence-argument, range-argument, number-argument, roleOf}
+use Rattle.model.specs.Calls.{Query, get, successor-after, first-from, iter, stranger, check, Call, insert, exchange, remove, remove-range, clear, clear-bounded, release-retired, set-base, take-front, ask, Answer, done, new, replaced, absent, found, pair, released, refused}
+use Rattle.model.specs.Roles.{Arguments, no-argument, sequence-argument, range-argument, number-argument, base-argument, roleOf}
 use Rattle.model.specs.Table.{Pair, Table, holds, valueIf, rangeCount, covers, sequenceOf, searchFrom, isStranger, pairAnswer, strangerIn, Known, first, refusedFor, hasPlaces, argumentRefusal}
 use Rattle.model.specs.Window.{Page, Window, sizeOf, capacityOf, cellOf, liveAt, isReached, cellPair, iterStep}
 use Rattle.model.specs.Pages.{valuesIn, insertPage}
-use Rattle.model.specs.Steps.{Effect, pageOf, liveHere, revive, insertStep, exchangeStep, removeStep, rangeStep, clearStep, clearBoundedStep, releaseStep, unlessRefused, windowAnswer, knownBy, windowStep, windowDoes}
+use Rattle.model.specs.Steps.{Effect, pageOf, liveHere, revive, insertStep, exchangeStep, removeStep, rangeStep, clearStep, clearBoundedStep, releaseStep, frontStep, unlessRefused, windowAnswer, knownBy, windowActs, windowStep, windowDoes}
 
 abbrev pub isSeven : Answer → Bool
 isSeven done = false
@@ -72,6 +72,7 @@ refused-for-not-7 k no-argument = refl
 refused-for-not-7 k (sequence-argument s) = refl
 refused-for-not-7 k (range-argument a b) = tested-not-7 5 (leb (rangeCount a b) (k .size)) 0 refl refl
 refused-for-not-7 k (number-argument n) = tested-not-7 8 (leb n 256) 0 refl refl
+refused-for-not-7 k (base-argument s) = tested-not-7 9 (ltb s (2 ^ 31)) 0 refl refl
 
 pub argument-not-7 : (k : Known) (c : Call) → isSeven (refused (argumentRefusal k c)) ≡ false
 argument-not-7 k c = tested-not-7 6 (hasPlaces (roleOf c .listed)) (refusedFor k (roleOf c .arguments)) refl (refused-for-not-7 k (roleOf c .arguments))
@@ -113,7 +114,7 @@ module _ (w : Window) where
 
   -- no call gives 7 on a window
   answer-not-7 : (c : Call) → isSeven (windowDoes w c .answer) ≡ false
-  unfolding windowDoes rangeStep clearStep clearBoundedStep releaseStep
+  unfolding windowDoes rangeStep clearStep clearBoundedStep releaseStep frontStep
   answer-not-7 (insert s v listed) = insert-answer s v
   answer-not-7 (exchange s v) = exchange-answer s v
   answer-not-7 (remove s) = remove-answer s
@@ -121,6 +122,8 @@ module _ (w : Window) where
   answer-not-7 (clear listed) = refl
   answer-not-7 (clear-bounded n listed) = refl
   answer-not-7 (release-retired b listed) = refl
+  answer-not-7 (set-base s) = refl
+  answer-not-7 take-front = remove-answer (w .header .base)
   answer-not-7 (ask q) = query-not-7 q
 
   unless-not-7 : (k : ℕ) (e : Effect) → isSeven (refused k) ≡ false → isSeven (e .answer) ≡ false → isSeven (unlessRefused k w e .answer) ≡ false
@@ -128,7 +131,7 @@ module _ (w : Window) where
   unless-not-7 (suc k) e h i = h
 
   step-not-7 : (c : Call) → isSeven (windowStep w c .answer) ≡ false
-  step-not-7 c = unless-not-7 (argumentRefusal (knownBy (w .header)) c) (windowDoes w c) (argument-not-7 (knownBy (w .header)) c) (answer-not-7 c)
+  step-not-7 c = unless-not-7 (argumentRefusal (knownBy (w .header)) c) (windowActs w c) (argument-not-7 (knownBy (w .header)) c) (answer-not-7 c)
 
   pub never-7 : (c : Call) → windowStep w c .answer ≡ refused 7 → ⊥
   never-7 c = not-refused-7 (windowStep w c .answer) (step-not-7 c)

@@ -29,14 +29,14 @@ use Rattle.laws_refinement.proofs.ClearLaws.{all-seen}
 -- what is left and what comes out of m positions from q upwards, where the positions were x
 record DrainedAs (m q k : ℕ) (x : Positions) (r : Returned) : Type 0 where
   out : r .out ≡ drain m q k (x .retired) .out
-  after : positionsOf (r .after) ≡ positions (x .live) (drain m q k (x .retired) .left) (x .cursor)
+  after : positionsOf (r .after) ≡ positions (x .live) (drain m q k (x .retired) .left) (x .cursor) (x .base)
 
 -- by what the drain is
 as-drained : (m q k : ℕ) (x : Positions) (d : Drained) (r : Returned) → drain m q k (x .retired) ≡ d → r .out ≡ d .out
-    → positionsOf (r .after) ≡ positions (x .live) (d .left) (x .cursor) → DrainedAs m q k x r
+    → positionsOf (r .after) ≡ positions (x .live) (d .left) (x .cursor) (x .base) → DrainedAs m q k x r
 as-drained m q k x d r e out after = record {
   out = out ∙ ap (λ (z : Drained). z .out) (sym e);
-  after = after ∙ ap (λ (z : Drained). positions (x .live) (z .left) (x .cursor)) (sym e);
+  after = after ∙ ap (λ (z : Drained). positions (x .live) (z .left) (x .cursor) (x .base)) (sym e);
 }
 
 -- the 64 positions of a page, and then n pages more
@@ -47,7 +47,7 @@ module _ (n g k : ℕ) (x : Positions) (m q : ℕ) (count : m ≡ 64 * suc n) (f
   in-two : drain m q k (x .retired) ≡ drainThen (64 * n) (64 * suc g) k d
   in-two = ap (λ (y : ℕ). drain m y k (x .retired)) from ∙ drain-append 64 (64 * n) (64 * g) k (x .retired) m (64 * suc g) (omega arith) (omega arith)
 
-  as-next : (p r : Returned) → p .out ≡ d .out → DrainedAs (64 * n) (64 * suc g) (k - length (p .out)) (positions (x .live) (d .left) (x .cursor)) r
+  as-next : (p r : Returned) → p .out ≡ d .out → DrainedAs (64 * n) (64 * suc g) (k - length (p .out)) (positions (x .live) (d .left) (x .cursor) (x .base)) r
       → DrainedAs m q k x (returnedBy (r .after) (p .out ++ r .out))
   as-next p r e s =
       let u = rw e at s in
@@ -92,7 +92,7 @@ pages-as (suc n) g (suc k) w m q a b ok len l =
 -- ---- clear_bounded
 
 module _ (w : Window) (ok : Proper w) (n : ℕ) where
-  all-as : DrainedAs (capacityOf w) 0 n (positions fresh (moved 0 (capacityOf w) (liveAt w) (retiredAt w)) (w .header .«release_cursor»)) (releasePages (pagesOf w) 0 n (retireAll w))
+  all-as : DrainedAs (capacityOf w) 0 n (positions fresh (moved 0 (capacityOf w) (liveAt w) (retiredAt w)) (w .header .«release_cursor») (w .header .base)) (releasePages (pagesOf w) 0 n (retireAll w))
   all-as =
       subst (λ (x : Positions). DrainedAs (capacityOf w) 0 n x (releasePages (pagesOf w) 0 n (retireAll w))) (all-seen w ok)
       (pages-as (pagesOf w) 0 n (retireAll w) (capacityOf w) 0 (capacity-pages (w .header .«window_size»)) refl (proper-all w ok) (all-len w) (omega (arith, pages-same w (retireAll w) (all-limits w))))

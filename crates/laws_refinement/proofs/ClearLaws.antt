@@ -41,6 +41,7 @@ module _ (w : Window) (ok : Proper w) where
   all-moves = record {
     pages = refl;
     cursor = refl;
+    base = refl;
     marks = λ g. elim (decLt g (pagesOf w)) [
       | yes l ↦ inl (all-retired w ok g (omega arith) ∙ sym (or-true (isRetired w g)) ∙ ap (λ (t : Bool). isRetired w g || t) (sym (within-yes 0 (pagesOf w) g (omega arith) l)))
       | no l ↦ inr (order .past g (omega arith))
@@ -53,13 +54,13 @@ module _ (w : Window) (ok : Proper w) where
       let e : pagesOf w * 64 ≡ capacityOf w = omega (arith, capacity-pages (w .header .«window_size»)) in
       within-pages 0 (pagesOf w) q ∙ ap (λ (c : ℕ). within 0 c q) e
 
-  pub all-seen : positionsOf (retireAll w) ≡ positions fresh (moved 0 (capacityOf w) (liveAt w) (retiredAt w)) (w .header .«release_cursor»)
+  pub all-seen : positionsOf (retireAll w) ≡ positions fresh (moved 0 (capacityOf w) (liveAt w) (retiredAt w)) (w .header .«release_cursor») (w .header .base)
   unfolding retireAll
   all-seen =
       let v = everything w ok in
       dropped-seen v (retires-retiring w v ok (all-retires w ok))
       ∙ moves-seen (w .header .n) w v (order .places) (within 0 (pagesOf w)) all-moves 0 (capacityOf w) all-positions
-      ∙ (λ i. positions (λ q. none-live q i) (moved 0 (capacityOf w) (liveAt w) (retiredAt w)) (w .header .«release_cursor»))
+      ∙ (λ i. positions (λ q. none-live q i) (moved 0 (capacityOf w) (liveAt w) (retiredAt w)) (w .header .«release_cursor») (w .header .base))
 
   -- ---- clear
 

@@ -21,7 +21,7 @@ fresh-size size n d = refl
 -- a fresh window has nothing at its positions
 fresh-seen : (size n d : ℕ) (m : Memory) → positionsOf (freshWindow size n d m) ≡ freshPositions
 unfolding freshWindow fresh
-fresh-seen size n d m = λ i. record { live = λ q. fresh-live size n d m q i; retired = λ q. fresh-retired size n d m q i; cursor = 0 }
+fresh-seen size n d m = λ i. record { live = λ q. fresh-live size n d m q i; retired = λ q. fresh-retired size n d m q i; cursor = 0; base = 0 }
 
 pub began : (size : ℕ) (u : State) → Began size u → Fresh size head (SoundState size) positionsIn u
 began size u b = record {

@@ -66,6 +66,7 @@ proper-order w ok = in-order w (ok .sound) (ok .past)
 pub record SameShown (w v : Window) : Type 0 where
   pub pages : v .pages ≡ w .pages
   pub cursor : v .header .«release_cursor» ≡ w .header .«release_cursor»
+  pub base : v .header .base ≡ w .header .base
   pub marks : (g : ℕ) → (isRetired v g ≡ isRetired w g) ⊎ (w .pages g .occupied ≡ 0)
 
 -- what does not depend on the mark
@@ -81,7 +82,7 @@ module _ (w v : Window) (s : SameShown w v) where
   by-mark f g h = either-mark f (isRetired v g) (isRetired w g) (elim (s .marks g) [ inl e ↦ inl e | inr e ↦ inr (h e) ])
 
   pub shown-seen : (n : ℕ) → ((g : ℕ) → Placed n (w .pages g)) → positionsOf v ≡ positionsOf w
-  shown-seen n ok = λ i. record { live = λ q. live q i; retired = λ q. retired q i; cursor = s .cursor i }
+  shown-seen n ok = λ i. record { live = λ q. live q i; retired = λ q. retired q i; cursor = s .cursor i; base = s .base i }
     where
       nothing : (q : ℕ) → w .pages (q / 64) .occupied ≡ 0 → standsAt (w .pages (q / 64)) (q % 64) ≡ none
       nothing q e = empty-stands n (w .pages (q / 64)) (ok (q / 64)) e (q % 64)
@@ -111,10 +112,10 @@ module _ (w v : Window) (s : SameShown w v) where
   }
 
 pub view-shown : (w v : Window) → SameView w v → SameShown w v
-view-shown w v s = record { pages = s .pages; cursor = s .cursor; marks = λ g. inl (view-retired w v s g) }
+view-shown w v s = record { pages = s .pages; cursor = s .cursor; base = s .base; marks = λ g. inl (view-retired w v s g) }
 
 pub shown-self : (w : Window) → SameShown w w
-shown-self w = record { pages = refl; cursor = refl; marks = λ g. inl refl }
+shown-self w = record { pages = refl; cursor = refl; base = refl; marks = λ g. inl refl }
 
 -- ---- an emptied page loses its mark
 
@@ -139,6 +140,7 @@ module _ (w : Window) (g : ℕ) where
   unmarked-shown z = record {
     pages = refl;
     cursor = refl;
+    base = refl;
     marks = λ r. elim (ℕ-discrete r g) [ yes e ↦ inr (rw e z) | no e ↦ inl (unmarked-other r e) ];
   }
 
@@ -168,6 +170,7 @@ module _ (n pages : ℕ) (w : Window) (o : InOrder n pages w) where
       (λ t. rw t (record {
         pages = refl;
         cursor = refl;
+        base = refl;
         marks = λ g. bool (isRetired w g)
             (λ r. inr (none-held (eqb-true (w .header .«retired_held») 0 t) g r))
             (λ r. inl (rw (bit-none (g / 64)) (no-mark w g r ∙ sym r)));
@@ -202,7 +205,7 @@ pub split-shown : (w : Window) (b : ℕ) → ((g : ℕ) → (noted w g ≡ 1 →
 unfolding splitBlock
 split-shown w b empty =
     bool (isSet (w .header .«retired_blocks») b)
-    (λ t. rw t (record { pages = refl; cursor = refl; marks = λ g. ⊎-elim (λ e. inr e) (λ e. inl e) (split-status w b t empty g) }))
+    (λ t. rw t (record { pages = refl; cursor = refl; base = refl; marks = λ g. ⊎-elim (λ e. inr e) (λ e. inl e) (split-status w b t empty g) }))
     (λ t. rw t (shown-self w))
 
 module _ (w : Window) (ok : Sound w) (past : NothingPast w) where

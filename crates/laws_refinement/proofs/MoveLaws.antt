@@ -18,6 +18,7 @@ use Rattle.laws_refinement.proofs.MarkLaws.{empty-stands, SameShown, ei
 pub record Moves (P : ℕ → Bool) (w v : Window) : Type 0 where
   pub pages : v .pages ≡ w .pages
   pub cursor : v .header .«release_cursor» ≡ w .header .«release_cursor»
+  pub base : v .header .base ≡ w .header .base
   pub marks : (g : ℕ) → (isRetired v g ≡ (isRetired w g || P g)) ⊎ (w .pages g .occupied ≡ 0)
 
 -- ---- none, then some, then more
@@ -26,6 +27,7 @@ pub shown-moves : (w v : Window) (P : ℕ → Bool) → ((g : ℕ) → P g ≡ f
 shown-moves w v P h s = record {
   pages = s .pages;
   cursor = s .cursor;
+  base = s .base;
   marks = λ g. ⊎-elim (λ e. inl (e ∙ sym (or-false (isRetired w g)) ∙ ap (λ (t : Bool). isRetired w g || t) (sym (h g)))) (λ e. inr e) (s .marks g);
 }
 
@@ -33,6 +35,7 @@ pub moves-then : (P Q R : ℕ → Bool) (w u v : Window) → ((g : ℕ) → R g 
 moves-then P Q R w u v h a b = record {
   pages = b .pages ∙ a .pages;
   cursor = b .cursor ∙ a .cursor;
+  base = b .base ∙ a .base;
   marks = λ g. ⊎-elim
       (λ e. ⊎-elim
       (λ d. inl (e ∙ ap (λ (t : Bool). t || Q g) d ∙ or-assoc (isRetired w g) (P g) (Q g) ∙ ap (λ (t : Bool). isRetired w g || t) (sym (h g))))
@@ -47,6 +50,7 @@ pub moves-same : (P Q : ℕ → Bool) (w v : Window) → ((g : ℕ) → (P g ≡
 moves-same P Q w v h a = record {
   pages = a .pages;
   cursor = a .cursor;
+  base = a .base;
   marks = λ g. ⊎-elim (λ d. ⊎-elim (λ e. inl (e ∙ ap (λ (t : Bool). isRetired w g || t) d)) (λ e. inr e) (a .marks g)) (λ d. inr d) (h g);
 }
 
@@ -102,7 +106,7 @@ module _ (n : ℕ) (w v : Window) (ok : (g : ℕ) → Placed n (w .pages g)) (P 
 
   -- where P holds just at the pages of the positions from a up to e
   pub moves-seen : (a e : ℕ) → ((q : ℕ) → P (q / 64) ≡ within a e q)
-      → positionsOf v ≡ positions (wipe a e (liveAt w)) (moved a e (liveAt w) (retiredAt w)) (w .header .«release_cursor»)
+      → positionsOf v ≡ positions (wipe a e (liveAt w)) (moved a e (liveAt w) (retiredAt w)) (w .header .«release_cursor») (w .header .base)
   moves-seen a e h = λ i. positions (λ q. (moves-live q ∙ ap (λ (b : Bool). cond b none (liveAt w q)) (h q)) i)
       (λ q. (moves-retired q ∙ ap (λ (b : Bool). cond b (over (liveAt w q) (retiredAt w q)) (retiredAt w q)) (h q)) i)
-      (m .cursor i)
+      (m .cursor i) (m .base i)

@@ -11,13 +11,13 @@ use Rattle.words.proofs.CaseLaws.{bool}
 use Rattle.words.specs.First.{firstFrom}
 use Rattle.window.specs.Memory.{position}
 use Rattle.window.proofs.MemoryLaws.{position-slot}
-use Rattle.model.specs.Calls.{Query, get, successor-after, first-from, iter, stranger, check, insert, exchange, remove, ask}
+use Rattle.model.specs.Calls.{Query, get, successor-after, first-from, iter, stranger, check, insert, exchange, remove, set-base, take-front, ask}
 use Rattle.model.specs.Roles.{ifRefused, roleOf, toldOf}
-use Rattle.model.specs.Table.{Pair, Table, at, putAt, putAnswer, exchangeAt, removeAt, tableAnswer, finds}
+use Rattle.model.specs.Table.{Pair, Table, at, sequenceAt, putAt, putAnswer, exchangeAt, removeAt, tableAnswer, finds}
 use Rattle.model.specs.Window.{Page, Window, sizeOf, capacityOf, pagesOf, cellOf, standsAt, isRetired, liveAt, retiredAt, isReached, iterStep}
 use Rattle.model.specs.Pages.{setValue, takeCell, afterRemoval, demotes, insertPage, Inserted}
 use Rattle.model.specs.Positions.{Positions, positions, plain, does}
-use Rattle.model.specs.Steps.{withPage, noteNonempty, putPage, addLive, subLive, countPromotion, countDemotion, revive, isNew, insertStep, exchangeStep, removeStep, windowAnswer, windowDoes}
+use Rattle.model.specs.Steps.{withPage, noteNonempty, putPage, addLive, subLive, countPromotion, countDemotion, revive, isNew, insertStep, exchangeStep, removeStep, frontStep, windowAnswer, windowDoes}
 use Rattle.model.specs.Sound.{Sound}
 use Rattle.page_base.specs.Page.{Placed}
 use Rattle.page_base.specs.Contracts.{exchanged}
@@ -38,13 +38,13 @@ at-own : (t : Table) (x q : ℕ) → at t x (t x) q ≡ t q
 at-own t x q = elim (ℕ-discrete q x) [ yes e ↦ rw (eq-eqb q x e) (ap t (sym e)) | no e ↦ rw (ne-eqb q x e) ]
 
 abbrev pointed : Positions → ℕ → (Option Pair → Option Pair) → Positions
-pointed z x f = positions (at (z .live) x (f (z .live x))) (z .retired) (z .cursor)
+pointed z x f = positions (at (z .live) x (f (z .live x))) (z .retired) (z .cursor) (z .base)
 
 -- v if the sequence was found, else w
 if-found : (w v : Window) (x : ℕ) (f : Option Pair → Option Pair) (b : Bool) → (b ≡ true → positionsOf v ≡ pointed (positionsOf w) x f)
     → (b ≡ false → f (liveAt w x) ≡ liveAt w x) → positionsOf (cond b v w) ≡ pointed (positionsOf w) x f
 if-found w v x f true g h = g refl
-if-found w v x f false g h = λ i. record { live = λ q. same q i; retired = retiredAt w; cursor = w .header .«release_cursor» }
+if-found w v x f false g h = λ i. record { live = λ q. same q i; retired = retiredAt w; cursor = w .header .«release_cursor»; base = w .header .base }
   where
     same : (q : ℕ) → liveAt w q ≡ at (liveAt w) x (f (liveAt w x)) q
     same q = sym (ap (λ (o : Option Pair). at (liveAt w) x o q) (h refl) ∙ at-own (liveAt w) x q)
@@ -165,6 +165,27 @@ module _ (w : Window) (s : ℕ) where
         answer = ap some (ap (putAnswer s) stood ∙ sym (leaves .answer));
         returned = revived .out;
       }
+
+-- ---- the base
+
+pub base-follows : (w : Window) (s : ℕ) → Follows w (set-base s)
+unfolding does windowDoes
+base-follows w s = record { after = refl; answer = refl; returned = refl }
+
+-- a remove of the base, and the base moved if it was found
+pub front-follows : (w : Window) → Sound w → Follows w take-front
+unfolding does windowDoes frontStep removeStep
+front-follows w ok =
+    let s = w .header .base in
+    let y = position (sizeOf w) s in
+    record {
+      after =
+          bool (finds s (liveAt w y))
+          (λ t. rw t (ap (λ (z : Positions). positions (z .live) (z .retired) (z .cursor) (sequenceAt s 1)) (removed-page w s ok t)))
+          (λ t. rw t (if-found w w y (removeAt s) false (λ e. absurd (true≢false (sym e))) (λ e. remove-absent s (liveAt w y) t)));
+      answer = refl;
+      returned = refl;
+    }
 
 -- ---- calls that change nothing
 

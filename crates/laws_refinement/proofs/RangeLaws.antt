@@ -68,10 +68,10 @@ module _ (w : Window) (ok : Retiring w) where
 
 -- ---- a stretch
 
--- what is left and what comes out, the cursor kept
-record SweptAs (s : Swept) (c : ℕ) (r : Returned) : Type 0 where
+-- what is left and what comes out, cursor and base kept
+record SweptAs (s : Swept) (cursor base : ℕ) (r : Returned) : Type 0 where
   out : r .out ≡ s .out
-  after : positionsOf (r .after) ≡ positions (s .live) (s .retired) c
+  after : positionsOf (r .after) ≡ positions (s .live) (s .retired) cursor base
 
 module _ (w : Window) (ok : Retiring w) (a e : ℕ) (l : a < e) (k : e ≤ capacityOf w) where
   abbrev head : Returned
@@ -92,22 +92,22 @@ module _ (w : Window) (ok : Retiring w) (a e : ℕ) (l : a < e) (k : e ≤ capac
   good : Retiring (head .after)
   good = retiring-first w ok a (omega arith)
 
-  last : Empties (e - e / 64 * 64) (e / 64 * 64) (positions (headAt .left) (retiredAt w) (w .header .«release_cursor»)) tail
+  last : Empties (e - e / 64 * 64) (e / 64 * 64) (positions (headAt .left) (retiredAt w) (w .header .«release_cursor») (w .header .base)) tail
   last = subst (λ (x : Positions). Empties (e - e / 64 * 64) (e / 64 * 64) x tail) (first .after) (last-empties (head .after) good e)
 
   several-as : SweptAs
       (swept (wipe ((a + 63) / 64 * 64) (e / 64 * 64) (tailAt .left)) (moved ((a + 63) / 64 * 64) (e / 64 * 64) (tailAt .left) (retiredAt w)) (headAt .out ++ tailAt .out))
-      (w .header .«release_cursor»)
+      (w .header .«release_cursor») (w .header .base)
       (returnedBy (retirePages (tail .after) ((a + 63) / 64) (e / 64)) (head .out ++ tail .out))
   several-as =
       let m : e ≤ capacityOf (head .after) = rw (same-size w (head .after) (first-limits w a)) k in
       record {
         out = λ i. first .out i ++ last .out i;
         after = pages-seen (tail .after) ((a + 63) / 64) (e / 64) (retiring-last (head .after) good e m)
-            ∙ ap (λ (x : Positions). positions (wipe ((a + 63) / 64 * 64) (e / 64 * 64) (x .live)) (moved ((a + 63) / 64 * 64) (e / 64 * 64) (x .live) (x .retired)) (x .cursor)) (last .after);
+            ∙ ap (λ (x : Positions). positions (wipe ((a + 63) / 64 * 64) (e / 64 * 64) (x .live)) (moved ((a + 63) / 64 * 64) (e / 64 * 64) (x .live) (x .retired)) (x .cursor) (x .base)) (last .after);
       }
 
-  stretch-as : SweptAs (sweep a e (liveAt w) (retiredAt w)) (w .header .«release_cursor») (retireStretch w a e)
+  stretch-as : SweptAs (sweep a e (liveAt w) (retiredAt w)) (w .header .«release_cursor») (w .header .base) (retireStretch w a e)
   unfolding sweep retireStretch
   stretch-as =
       bool (eqb (a / 64) ((e - 1) / 64))
@@ -117,7 +117,7 @@ module _ (w : Window) (ok : Retiring w) (a e : ℕ) (l : a < e) (k : e ≤ capac
 -- ---- a range
 
 module _ (w : Window) (ok : Retiring w) (start count : ℕ) (l : start < capacityOf w) (some : 0 < count) (few : count ≤ capacityOf w) where
-  range-as : SweptAs (sweepRange (capacityOf w) start count (liveAt w) (retiredAt w)) (w .header .«release_cursor») (retireRange w start count)
+  range-as : SweptAs (sweepRange (capacityOf w) start count (liveAt w) (retiredAt w)) (w .header .«release_cursor») (w .header .base) (retireRange w start count)
   unfolding sweepRange retireRange
   range-as =
       bool (leb (start + count) (capacityOf w))
@@ -128,7 +128,7 @@ module _ (w : Window) (ok : Retiring w) (start count : ℕ) (l : start < capacit
       let v = retireStretch (u .after) 0 e in
       let first = stretch-as w ok start (capacityOf w) l (omega arith) in
       let k : e ≤ capacityOf (u .after) = rw (same-size w (u .after) (stretch-limits w start (capacityOf w))) (omega arith) in
-      let second = subst (λ (x : Positions). SweptAs (sweep 0 e (x .live) (x .retired)) (x .cursor) v) (first .after)
+      let second = subst (λ (x : Positions). SweptAs (sweep 0 e (x .live) (x .retired)) (x .cursor) (x .base) v) (first .after)
       (stretch-as (u .after) (retiring-stretch w start (capacityOf w) ok l (omega arith)) 0 e (omega (arith, leb-false (start + count) (capacityOf w) t)) k) in
       rw t (record { out = λ i. first .out i ++ second .out i; after = second .after }))
 
@@ -145,7 +145,7 @@ module _ (w : Window) (ok : Proper w) (start count : ℕ) (l : start < capacityO
   abbrev v : Window
   v = ranged w start count
 
-  all-swept : SweptAs s (w .header .«release_cursor») t
+  all-swept : SweptAs s (w .header .«release_cursor») (w .header .base) t
   all-swept = range-as w (proper-retiring w ok) start count l some few
 
   -- "If nothing was retired before, release_cursor becomes the page of first."
@@ -155,15 +155,15 @@ module _ (w : Window) (ok : Proper w) (start count : ℕ) (l : start < capacityO
   counts : retiredCount (capacityOf w) (positionsOf w) ≡ w .header .«retired_held»
   counts = all-counts (w .header .n) (pagesOf w) w (proper-order w ok) (capacityOf w) (capacity-pages (w .header .«window_size»))
 
-  swept-seen : positionsOf v ≡ positions (s .live) (s .retired) cursor
+  swept-seen : positionsOf v ≡ positions (s .live) (s .retired) cursor (w .header .base)
   swept-seen =
       bool (eqb (w .header .«retired_held») 0)
-      (λ e. rw (e, counts, le-ltb 0 (w .header .«retired_held») (omega (arith, eqb-true (w .header .«retired_held») 0 e))) (ap (λ (x : Positions). positions (x .live) (x .retired) (start / 64)) (all-swept .after)))
+      (λ e. rw (e, counts, le-ltb 0 (w .header .«retired_held») (omega (arith, eqb-true (w .header .«retired_held») 0 e))) (ap (λ (x : Positions). positions (x .live) (x .retired) (start / 64) (x .base)) (all-swept .after)))
       (λ e. rw (e, counts, lt-ltb 0 (w .header .«retired_held») (omega (arith, eqb-false (w .header .«retired_held») 0 e))) (all-swept .after))
 
-  released : ReleasedAs (pagesOf w) 256 256 (positions (s .live) (s .retired) cursor) (release 256 v)
+  released : ReleasedAs (pagesOf w) 256 256 (positions (s .live) (s .retired) cursor (w .header .base)) (release 256 v)
   released =
-      as-seen (pagesOf v) (pagesOf w) 256 256 (positionsOf v) (positions (s .live) (s .retired) cursor) (release 256 v) (pages-same w v (ranged-limits w start count)) swept-seen
+      as-seen (pagesOf v) (pagesOf w) 256 256 (positionsOf v) (positions (s .live) (s .retired) cursor (w .header .base)) (release 256 v) (pages-same w v (ranged-limits w start count)) swept-seen
       (release-as v (retiring-ranged w start count ok l some few) 256)
 
 pub range-follows : (w : Window) → Proper w → (a b : ℕ) (listed : Bool) → leb (rangeCount a b) (sizeOf w) ≡ true → Follows w (remove-range a b listed)

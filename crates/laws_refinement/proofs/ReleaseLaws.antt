@@ -41,7 +41,7 @@ nothing-drained (suc m) p (suc k) t h = rw (h p (omega arith) (omega arith), dra
 
 pub record Releases (n pages : ℕ) (x : Positions) (g k : ℕ) (r : Returned) : Type 0 where
   pub out : r .out ≡ drain 64 (64 * g) k (x .retired) .out
-  pub after : positionsOf (r .after) ≡ positions (x .live) (drain 64 (64 * g) k (x .retired) .left) (x .cursor)
+  pub after : positionsOf (r .after) ≡ positions (x .live) (drain 64 (64 * g) k (x .retired) .left) (x .cursor) (x .base)
   pub order : InOrder n pages (r .after)
 
 -- ---- a retired page released
@@ -117,8 +117,8 @@ module _ (n pages : ℕ) (w : Window) (o : InOrder n pages w) (g : ℕ) (below :
             ])
       ]
 
-  noted-seen : positionsOf noted ≡ positions (liveAt w) (table .left) (w .header .«release_cursor»)
-  noted-seen = view-seen changed noted (note-view changed g) ∙ (λ i. record { live = λ q. changed-live q i; retired = λ q. changed-retired q i; cursor = w .header .«release_cursor» })
+  noted-seen : positionsOf noted ≡ positions (liveAt w) (table .left) (w .header .«release_cursor») (w .header .base)
+  noted-seen = view-seen changed noted (note-view changed g) ∙ (λ i. record { live = λ q. changed-live q i; retired = λ q. changed-retired q i; cursor = w .header .«release_cursor»; base = w .header .base })
 
   noted-order : InOrder n pages noted
   noted-order = shown-order changed noted (view-shown changed noted (note-view changed g)) n pages (note-held changed g) changed-order
@@ -200,7 +200,7 @@ live-releases n pages w g o r =
     let e = nothing-drained 64 (64 * g) 64 (retiredAt w) (λ q a b. none-retired-here w g q (omega arith) r) in
     record {
       out = ap (λ (d : Drained). d .out) (sym e);
-      after = ap (λ (d : Drained). positions (liveAt w) (d .left) (w .header .«release_cursor»)) (sym e);
+      after = ap (λ (d : Drained). positions (liveAt w) (d .left) (w .header .«release_cursor») (w .header .base)) (sym e);
       order = o;
     }
 

@@ -47,6 +47,7 @@ module _ (from to b : ℕ) (w v : Window) (k : ℕ) (ok : Retiring w) (below : b
   in-moves h = record {
     pages = c .pages;
     cursor = ap (λ (x : AdaptiveReceiverPacketWindow). x .«release_cursor») (c .header);
+    base = ap (λ (x : AdaptiveReceiverPacketWindow). x .base) (c .header);
     marks = λ g. elim (ℕ-discrete (g / 64) b) [
       | yes e ↦
           let z : 64 * b + g % 64 ≡ g = omega arith in
@@ -169,6 +170,6 @@ module _ (w : Window) (from to : ℕ) (ok : Retiring w) where
       ]) (shown-self w))
 
   pub pages-seen : positionsOf (retirePages w from to)
-      ≡ positions (wipe (from * 64) (to * 64) (liveAt w)) (moved (from * 64) (to * 64) (liveAt w) (retiredAt w)) (w .header .«release_cursor»)
+      ≡ positions (wipe (from * 64) (to * 64) (liveAt w)) (moved (from * 64) (to * 64) (liveAt w) (retiredAt w)) (w .header .«release_cursor») (w .header .base)
   pages-seen =
       moves-seen (w .header .n) w (retirePages w from to) (retiring-order w ok .places) (within from to) pages-moves (from * 64) (to * 64) (within-pages from to)

@@ -16,13 +16,14 @@ use Rattle.model.specs.Steps.{withHeader, withPage, noteNonempty, addLive, subL
 use Rattle.laws_soundness.proofs.PutLaws.{fewer}
 use Rattle.laws_refinement.specs.Seen.{positionsOf}
 
--- ---- steps that touch no page, no mark and not the cursor
+-- ---- steps that touch no page, no mark, and neither cursor nor base
 
 pub record SameView (w v : Window) : Type 0 where
   pub pages : v .pages ≡ w .pages
   pub block-marks : v .header .«retired_blocks» ≡ w .header .«retired_blocks»
   pub page-marks : (b : ℕ) → v .blocks b .retired ≡ w .blocks b .retired
   pub cursor : v .header .«release_cursor» ≡ w .header .«release_cursor»
+  pub base : v .header .base ≡ w .header .base
 
 module _ (w v : Window) (s : SameView w v) where
   pub view-retired : (g : ℕ) → isRetired v g ≡ isRetired w g
@@ -34,6 +35,7 @@ module _ (w v : Window) (s : SameView w v) where
     live = λ q. cond (view-retired (q / 64) i) none (standsAt (s .pages i (q / 64)) (q % 64));
     retired = λ q. cond (view-retired (q / 64) i) (standsAt (s .pages i (q / 64)) (q % 64)) none;
     cursor = s .cursor i;
+    base = s .base i;
   }
 
   pub view-then : (u : Window) → SameView v u → SameView w u
@@ -42,6 +44,7 @@ module _ (w v : Window) (s : SameView w v) where
     block-marks = t .block-marks ∙ s .block-marks;
     page-marks = λ b. t .page-marks b ∙ s .page-marks b;
     cursor = t .cursor ∙ s .cursor;
+    base = t .base ∙ s .base;
   }
 
 -- a block with its retired word as it was
@@ -54,7 +57,7 @@ same-word f b x h c = elim (ℕ-discrete c b) [
 module _ (w : Window) where
   pub note-view : (g : ℕ) → SameView w (noteNonempty w g)
   unfolding noteNonempty
-  note-view g = record { pages = refl; block-marks = refl; page-marks = same-word (w .blocks) (g / 64) _ refl; cursor = refl }
+  note-view g = record { pages = refl; block-marks = refl; page-marks = same-word (w .blocks) (g / 64) _ refl; cursor = refl; base = refl }
 
   pub note-held : (g : ℕ) → noteNonempty w g .header .«retired_held» ≡ w .header .«retired_held»
   unfolding noteNonempty
@@ -65,21 +68,21 @@ module _ (w : Window) where
   note-size g = refl
 
   pub add-view : (b k : ℕ) → SameView w (addLive w b k)
-  add-view b k = record { pages = refl; block-marks = refl; page-marks = same-word (w .blocks) b _ refl; cursor = refl }
+  add-view b k = record { pages = refl; block-marks = refl; page-marks = same-word (w .blocks) b _ refl; cursor = refl; base = refl }
 
   pub sub-view : (b k : ℕ) → SameView w (subLive w b k)
-  sub-view b k = record { pages = refl; block-marks = refl; page-marks = same-word (w .blocks) b _ refl; cursor = refl }
+  sub-view b k = record { pages = refl; block-marks = refl; page-marks = same-word (w .blocks) b _ refl; cursor = refl; base = refl }
 
-  -- another header with the same block marks and cursor
-  pub header-view : (h : AdaptiveReceiverPacketWindow) → h .«retired_blocks» ≡ w .header .«retired_blocks» → h .«release_cursor» ≡ w .header .«release_cursor»
+  -- another header with the same block marks, cursor and base
+  pub header-view : (h : AdaptiveReceiverPacketWindow) → h .«retired_blocks» ≡ w .header .«retired_blocks» → h .«release_cursor» ≡ w .header .«release_cursor» → h .base ≡ w .header .base
       → SameView w (withHeader w h)
-  header-view h marks cursor = record { pages = refl; block-marks = marks; page-marks = λ c. refl; cursor = cursor }
+  header-view h marks cursor base = record { pages = refl; block-marks = marks; page-marks = λ c. refl; cursor = cursor; base = base }
 
   pub promotion-view : (b : Bool) → SameView w (countPromotion w b)
-  promotion-view b = header-view _ refl refl
+  promotion-view b = header-view _ refl refl refl
 
   pub demotion-view : (b : Bool) → SameView w (countDemotion w b)
-  demotion-view b = header-view _ refl refl
+  demotion-view b = header-view _ refl refl refl
 
 -- a page with fewer values put and counted: only the page matters
 pub fewer-seen : (w : Window) (g k : ℕ) (p : Page) (demoted : Bool) → positionsOf (fewer w g k p demoted) ≡ positionsOf (withPage w g p)
@@ -138,5 +141,5 @@ module _ (w : Window) (x : ℕ) (p : Page) (f : Option Pair → Option Pair) (li
         | no e ↦ rw (ne-eqb (q / 64) (x / 64) e)
       ]
 
-  pub point-seen : positionsOf (withPage w (x / 64) p) ≡ positions (at (liveAt w) x (f (liveAt w x))) (retiredAt w) (w .header .«release_cursor»)
-  point-seen = λ i. record { live = λ q. point-live q i; retired = λ q. point-retired q i; cursor = w .header .«release_cursor» }
+  pub point-seen : positionsOf (withPage w (x / 64) p) ≡ positions (at (liveAt w) x (f (liveAt w x))) (retiredAt w) (w .header .«release_cursor») (w .header .base)
+  point-seen = λ i. record { live = λ q. point-live q i; retired = λ q. point-retired q i; cursor = w .header .«release_cursor»; base = w .header .base }

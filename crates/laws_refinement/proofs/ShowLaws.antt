@@ -98,7 +98,7 @@ module _ (size : ℕ) where
   shows u s =
       let w = windowOf u in
       let header : w .header ≡ u .header = header-at (u .header) (u .memory) in
-      let ok : Proper w = proper-decode (u .header) (u .memory) (s .sound) in
+      let ok : Proper w = proper-decode (u .header) (u .memory) (s .sound .sound) in
       let same : sizeOf w ≡ size = ap (λ (h : AdaptiveReceiverPacketWindow). h .«window_size») header ∙ s .of-size in
       subst (λ (n : ℕ). Shows n head (SoundState size) positionsIn u) same (record {
         sound = s .sound;
@@ -108,6 +108,8 @@ module _ (size : ℕ) where
         retired-values = retired-times w ok;
         count = ap (λ (h : AdaptiveReceiverPacketWindow). h .len) (sym header) ∙ live-length w ok;
         held = ap (λ (h : AdaptiveReceiverPacketWindow). h .«retired_held») (sym header) ∙ retired-held w ok;
+        base = ap (λ (h : AdaptiveReceiverPacketWindow). h .base) (sym header);
+        point = ap (λ (h : AdaptiveReceiverPacketWindow). h .point) (sym header) ∙ s .sound .point;
         retired-count = retired-length w ok;
       })
 

@@ -26,13 +26,13 @@ use Rattle.laws_refinement.proofs.ReleaseLaws.{nothing-drained}
 -- what is left and what comes out of the m positions from q upwards, where the positions were x
 pub record Empties (m q : ℕ) (x : Positions) (r : Returned) : Type 0 where
   pub out : r .out ≡ drain m q 64 (x .live) .out
-  pub after : positionsOf (r .after) ≡ positions (drain m q 64 (x .live) .left) (x .retired) (x .cursor)
+  pub after : positionsOf (r .after) ≡ positions (drain m q 64 (x .live) .left) (x .retired) (x .cursor) (x .base)
 
 -- where nothing is live
 pub nothing-empties : (m q : ℕ) (w : Window) → drain m q 64 (liveAt w) ≡ drained (liveAt w) [] → Empties m q (positionsOf w) (returnedBy w [])
 nothing-empties m q w e = record {
   out = ap (λ (d : Drained). d .out) (sym e);
-  after = ap (λ (d : Drained). positions (d .left) (retiredAt w) (w .header .«release_cursor»)) (sym e);
+  after = ap (λ (d : Drained). positions (d .left) (retiredAt w) (w .header .«release_cursor») (w .header .base)) (sym e);
 }
 
 -- P holds at the m positions from j upwards, of the 64 of page g, and at no others
@@ -91,7 +91,7 @@ module _ (n : ℕ) (w : Window) (g : ℕ) (P : ℕ → Bool) (j m q : ℕ) (ok :
     taken = record {
       out = sym (both-drained .out);
       after = fewer-seen w g (length (d .out)) rest (demotes (w .header .«demote_at») (d .page))
-          ∙ (λ i. positions (λ x. slots-live x i) (λ x. slots-retired x i) (w .header .«release_cursor»));
+          ∙ (λ i. positions (λ x. slots-live x i) (λ x. slots-retired x i) (w .header .«release_cursor») (w .header .base));
     }
 
   skipped : ((x : ℕ) → x / 64 ≡ g → liveAt w x ≡ none) → Empties m q (positionsOf w) (returnedBy w [])

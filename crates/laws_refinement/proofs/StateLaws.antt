@@ -17,14 +17,14 @@ use Rattle.model.specs.Table.{argumentRefusal}
 use Rattle.model.specs.Demand3.{Entry}
 use Rattle.model.specs.Window.{Window, sizeOf}
 use Rattle.model.specs.Positions.{step}
-use Rattle.model.specs.Steps.{Effect, effect, unlessRefused, knownBy, windowStep, windowDoes}
-use Rattle.model.specs.Sound.{Sound}
+use Rattle.model.specs.Steps.{Effect, effect, unlessRefused, knownBy, windowActs, windowStep}
+use Rattle.model.specs.Sound.{SoundWithPoint}
 use Rattle.model.specs.Contract.{State, windowOf, Left, lengthsFit, refusal, SameLengths, Does, Meets}
 use Rattle.model.specs.Heads.{Stepped}
 use Rattle.page_base.proofs.DecodeLaws.{header-at}
-use Rattle.laws_soundness.specs.Change.{Proper, Limits, limitsOf, SameLimits}
+use Rattle.laws_soundness.specs.Change.{Proper, Sizes, sizesOf, SameSizes}
 use Rattle.laws_soundness.proofs.ProperLaws.{proper-decode}
-use Rattle.laws_soundness.proofs.CallLaws.{call-limits, sound-call}
+use Rattle.laws_soundness.proofs.CallLaws.{call-sizes, sound-call}
 use Rattle.laws_refinement.specs.Seen.{positionsOf, StepFollows, SoundState, StepRefines}
 use Rattle.laws_refinement.proofs.CallLaws.{call-follows}
 use Rattle.laws_refinement.proofs.AnswerLaws.{isSeven, not-refused-7, argument-not-7, never-7}
@@ -37,7 +37,7 @@ unless-refused zero w e h = absurd (h refl)
 unless-refused (suc k) w e h = refl
 
 refused-step : (w : Window) (c : Call) → (argumentRefusal (knownBy (w .header)) c ≡ 0 → ⊥) → windowStep w c ≡ effect w (refused (argumentRefusal (knownBy (w .header)) c)) []
-refused-step w c h = unless-refused (argumentRefusal (knownBy (w .header)) c) w (windowDoes w c) h
+refused-step w c h = unless-refused (argumentRefusal (knownBy (w .header)) c) w (windowActs w c) h
 
 module _ (c : Call) (u : State) (l : List ℕ) (r : Left) (m : Meets c u l r) (fit : lengthsFit u ≡ true) where
   refusal-is : argumentRefusal (knownBy (windowOf u .header)) c ≡ refusal u c
@@ -56,13 +56,13 @@ module _ (c : Call) (u : State) (l : List ℕ) (r : Left) (m : Meets c u l r) (f
       }
 
   -- refused for its arguments or not, a call that meets its contract does what the definition says
-  pub meets-does : Sound (windowOf u) → Does c (windowOf u) r
+  pub meets-does : SoundWithPoint (windowOf u) → Does c (windowOf u) r
   meets-does ok = elim (ℕ-discrete (refusal u c) 0) [ yes z ↦ m .sound z ok | no z ↦ refused-does z ]
 
 -- ---- one step
 
 -- the same limits and lengths fit as well
-pub fits-same : (h k : AdaptiveReceiverPacketWindow) (m n : Memory) → limitsOf k ≡ limitsOf h → SameLengths m n
+pub fits-same : (h k : AdaptiveReceiverPacketWindow) (m n : Memory) → sizesOf k ≡ sizesOf h → SameLengths m n
     → fits k (length (n .sequences)) (length (n .values)) (length (n .pages)) (length (n .blocks))
     ≡ fits h (length (m .sequences)) (length (m .values)) (length (m .pages)) (length (m .blocks))
 unfolding fits
@@ -75,22 +75,22 @@ module _ (size : ℕ) (u v : State) (e : Entry) (s : SoundState size u) (t : Ste
   does = meets-does (e .call) u (t .list) (t .left) (t .meets) (s .fit) (s .sound)
 
   proper : Proper (windowOf u)
-  proper = proper-decode (u .header) (u .memory) (s .sound)
+  proper = proper-decode (u .header) (u .memory) (s .sound .sound)
 
   leaves : windowOf v ≡ windowStep (windowOf u) (e .call) .after
   leaves = ap windowOf (sym (t .state)) ∙ does .window
 
-  -- the state is sound where the window is, and the limits are kept
-  pub sound-next : Sound (windowStep (windowOf u) (e .call) .after) → SameLimits (windowOf u) (windowStep (windowOf u) (e .call) .after) → SoundState size v
+  -- the state is sound where the window is, and the sizes are kept
+  pub sound-next : SoundWithPoint (windowStep (windowOf u) (e .call) .after) → SameSizes (windowOf u) (windowStep (windowOf u) (e .call) .after) → SoundState size v
   sound-next ok same =
-      let kept : limitsOf (v .header) ≡ limitsOf (u .header) =
-      ap limitsOf (sym (header-at (v .header) (v .memory))) ∙ ap (λ (w : Window). limitsOf (w .header)) leaves ∙ same
-      ∙ ap limitsOf (header-at (u .header) (u .memory)) in
+      let kept : sizesOf (v .header) ≡ sizesOf (u .header) =
+      ap sizesOf (sym (header-at (v .header) (v .memory))) ∙ ap (λ (w : Window). sizesOf (w .header)) leaves ∙ same
+      ∙ ap sizesOf (header-at (u .header) (u .memory)) in
       let lengths = subst (λ (x : State). SameLengths (u .memory) (x .memory)) (t .state) (t .meets .lengths) in
       record {
-        of-size = ap (λ (x : Limits). x .size) kept ∙ s .of-size;
+        of-size = ap (λ (x : Sizes). x .size) kept ∙ s .of-size;
         fit = fits-same (u .header) (v .header) (u .memory) (v .memory) kept lengths ∙ s .fit;
-        sound = subst Sound (sym leaves) ok;
+        sound = subst SoundWithPoint (sym leaves) ok;
       }
 
   -- what the call does to the window, it does to the state
@@ -109,7 +109,7 @@ module _ (size : ℕ) (u v : State) (e : Entry) (s : SoundState size u) (t : Ste
   -- ---- every call
 
   pub sound-stays : SoundState size v
-  sound-stays = sound-next (sound-call (u .header) (u .memory) (e .call) (s .sound)) (call-limits (windowOf u) proper (e .call))
+  sound-stays = sound-next (sound-call (u .header) (u .memory) (e .call) (s .sound)) (call-sizes (windowOf u) proper (e .call))
 
   pub call-refines : StepRefines size u e v
   call-refines = follows-refines (call-follows (windowOf u) proper (e .call)) sound-stays
@@ -121,7 +121,7 @@ refusal-not-7 : (u : State) (c : Call) → isSeven (refused (refusal u c)) ≡ f
 refusal-not-7 u c = bool (lengthsFit u) (λ e. rw e (argument-not-7 (knownBy (u .header)) c)) (λ e. rw e)
 
 -- "Another call may give 7, only on an unsound state": where no other refusal comes first, and the state is not sound
-pub seven-unsound : (c : Call) (u : State) (l : List ℕ) (r : Left) → Meets c u l r → r .answer ≡ refused 7 → (refusal u c ≡ 0) × (Sound (windowOf u) → ⊥)
+pub seven-unsound : (c : Call) (u : State) (l : List ℕ) (r : Left) → Meets c u l r → r .answer ≡ refused 7 → (refusal u c ≡ 0) × (SoundWithPoint (windowOf u) → ⊥)
 seven-unsound c u l r m e = elim (ℕ-discrete (refusal u c) 0) [
   | yes z ↦ (z, λ ok. never-7 (windowOf u) c (sym (m .sound z ok .answer) ∙ e))
   | no z ↦ absurd (not-refused-7 (refused (refusal u c)) (refusal-not-7 u c) (sym (m .refuses z .0) ∙ e))

@@ -29,7 +29,7 @@ use Rattle.laws_refinement.proofs.CountLaws.{page-holds, next-page}
 pub record ReleasedAs (pages f b : ℕ) (x : Positions) (r : Release) : Type 0 where
   pub out : r .out ≡ releaseAt pages f b (x .retired) (x .cursor) .out
   pub units : r .units ≡ releaseAt pages f b (x .retired) (x .cursor) .units
-  pub after : positionsOf (r .after) ≡ positions (x .live) (releaseAt pages f b (x .retired) (x .cursor) .retired) (releaseAt pages f b (x .retired) (x .cursor) .cursor)
+  pub after : positionsOf (r .after) ≡ positions (x .live) (releaseAt pages f b (x .retired) (x .cursor) .retired) (releaseAt pages f b (x .retired) (x .cursor) .cursor) (x .base)
 
 -- by how many pages there are, and what stands at the positions
 pub as-seen : (n pages f b : ℕ) (y x : Positions) (r : Release) → n ≡ pages → y ≡ x → ReleasedAs n f b y r → ReleasedAs pages f b x r
@@ -42,7 +42,7 @@ as-stops : (pages f b : ℕ) (x : Positions) (w : Window) → releaseAt pages f 
 as-stops pages f b x w e s = record {
   out = ap (λ (r : Released). r .out) (sym e);
   units = ap (λ (r : Released). r .units) (sym e);
-  after = s ∙ ap (λ (r : Released). positions (x .live) (r .retired) (r .cursor)) (sym e);
+  after = s ∙ ap (λ (r : Released). positions (x .live) (r .retired) (r .cursor) (x .base)) (sym e);
 }
 
 module _ (w : Window) (ok : Proper w) where
@@ -64,7 +64,7 @@ module _ (pages f b : ℕ) (x : Positions) where
   d = drain 64 (64 * g) b (x .retired)
 
   abbrev next : Positions
-  next = positions (x .live) (d .left) (cursorAfter pages (d .left) g)
+  next = positions (x .live) (d .left) (cursorAfter pages (d .left) g) (x .base)
 
   as-visits : (p : Returned) (r : Release) → ltb g pages ≡ true → p .out ≡ d .out → ReleasedAs pages f (b - length (p .out)) next r
       → ReleasedAs pages (suc f) (suc b) x (releaseOf (r .after) (p .out ++ r .out) (1 + length (p .out) + r .units))
@@ -74,7 +74,7 @@ module _ (pages f b : ℕ) (x : Positions) where
       record {
         out = (λ i. e i ++ u .out i) ∙ ap (λ (z : Released). z .out) (sym v);
         units = (λ i. 1 + length (e i) + u .units i) ∙ ap (λ (z : Released). z .units) (sym v);
-        after = u .after ∙ ap (λ (z : Released). positions (x .live) (z .retired) (z .cursor)) (sym v);
+        after = u .after ∙ ap (λ (z : Released). positions (x .live) (z .retired) (z .cursor) (x .base)) (sym v);
       }
 
 -- a page inspected
@@ -103,8 +103,8 @@ module _ (w : Window) (ok : Proper w) where
         let left = ap (λ (x : Positions). x .retired) (page .after) in
         rw size (ap (λ (t : Bool). cond t h ((h + 1) % pagesOf w)) (sym status ∙ sym holds) ∙ ap (λ (t : Table). cursorAfter (pagesOf w) t h) left)
 
-    moved-seen : positionsOf (moveCursor (p .after) h) ≡ positions (liveAt w) (drain 64 (64 * h) b (retiredAt w) .left) (cursorAfter (pagesOf w) (drain 64 (64 * h) b (retiredAt w) .left) h)
-    moved-seen = λ i. positions (page .after i .live) (page .after i .retired) (cursor-same i)
+    moved-seen : positionsOf (moveCursor (p .after) h) ≡ positions (liveAt w) (drain 64 (64 * h) b (retiredAt w) .left) (cursorAfter (pagesOf w) (drain 64 (64 * h) b (retiredAt w) .left) h) (w .header .base)
+    moved-seen = λ i. positions (page .after i .live) (page .after i .retired) (cursor-same i) (page .after i .base)
 
 -- ---- the whole release
 
@@ -122,7 +122,7 @@ units-as (suc f) (suc b) w ok =
     let v = moveCursor (p .after) g in
     let pages : pagesOf v ≡ pagesOf w = ap pageCount (release-size (w .header .n) (pagesOf w) w (order w ok) g l r b) in
     let rest = units-as f (b - length (p .out)) v (proper-visit w g b ok l r) in
-    let at : ℕ → Positions = λ h. positions (liveAt w) (drain 64 (64 * h) b (retiredAt w) .left) (cursorAfter (pagesOf w) (drain 64 (64 * h) b (retiredAt w) .left) h) in
+    let at : ℕ → Positions = λ h. positions (liveAt w) (drain 64 (64 * h) b (retiredAt w) .left) (cursorAfter (pagesOf w) (drain 64 (64 * h) b (retiredAt w) .left) h) (w .header .base) in
     subst (ReleasedAs (pagesOf w) (suc f) (suc b) (positionsOf w)) (sym (units-visits w f b t))
     (as-visits (pagesOf w) f b (positionsOf w) p _ (ap (λ (h : ℕ). ltb h (pagesOf w)) same ∙ t)
     (page w ok b l r .out ∙ ap (λ (h : ℕ). drain 64 (64 * h) b (retiredAt w) .out) (sym same))

@@ -11,13 +11,13 @@ use Rattle.model.specs.Window.{Window, sizeOf, pagesOf, isRetired, liveAt, reti
 use Rattle.model.specs.Pages.{holdsValue}
 use Rattle.model.specs.Positions.{Positions, positions, Result, step, does}
 use Rattle.model.specs.Steps.{Effect, windowStep, windowDoes}
-use Rattle.model.specs.Sound.{Sound}
+use Rattle.model.specs.Sound.{SoundWithPoint}
 use Rattle.model.specs.Contract.{State, windowOf, lengthsFit}
 use Rattle.model.specs.Heads.{head}
 use Rattle.model.specs.Refinement.{Refines}
 
 abbrev pub positionsOf : Window → Positions
-positionsOf w = positions (liveAt w) (retiredAt w) (w .header .«release_cursor»)
+positionsOf w = positions (liveAt w) (retiredAt w) (w .header .«release_cursor») (w .header .base)
 
 -- e, of call c, does to window w what r does at its positions
 pub record Alike (w : Window) (c : Call) (e : Effect) (r : Result) : Type 0 where
@@ -46,7 +46,7 @@ positionsIn u = positionsOf (windowOf u)
 pub record SoundState (size : ℕ) (u : State) : Type 0 where
   pub of-size : u .header .«window_size» ≡ size
   pub fit : lengthsFit u ≡ true
-  pub sound : Sound (windowOf u)
+  pub sound : SoundWithPoint (windowOf u)
 
 -- what a step of a head owes, as demand 3 needs it
 abbrev pub StepRefines : ℕ → State → Entry → State → Type 0

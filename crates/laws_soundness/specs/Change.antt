@@ -23,15 +23,29 @@ pub record Proper (w : Window) : Type 0 where
   pub past : NothingPast w
 
 -- what `new` sets and no call changes: window_size, N and demote_at
-pub record Limits : Type 0 where
+pub record Sizes : Type 0 where
   pub size : ℕ
   pub cells : ℕ
   pub demote-at : ℕ
 
-abbrev pub limitsOf : AdaptiveReceiverPacketWindow → Limits
-limitsOf h = record { size = h .«window_size»; cells = h .n; demote-at = h .«demote_at» }
+abbrev pub sizesOf : AdaptiveReceiverPacketWindow → Sizes
+sizesOf h = record { size = h .«window_size»; cells = h .n; demote-at = h .«demote_at» }
 
 -- v has those of w
+abbrev pub SameSizes : Window → Window → Type 0
+SameSizes w v = sizesOf (v .header) ≡ sizesOf (w .header)
+
+-- what no call of document 01 changes: these, base and point
+pub record Limits : Type 0 where
+  pub size : ℕ
+  pub cells : ℕ
+  pub demote-at : ℕ
+  pub base : ℕ
+  pub point : ℕ
+
+abbrev pub limitsOf : AdaptiveReceiverPacketWindow → Limits
+limitsOf h = record { size = h .«window_size»; cells = h .n; demote-at = h .«demote_at»; base = h .base; point = h .point }
+
 abbrev pub SameLimits : Window → Window → Type 0
 SameLimits w v = limitsOf (v .header) ≡ limitsOf (w .header)
 

@@ -4,16 +4,16 @@ use mathlib.Core.Path.{_≡_, refl, sym, ap, _∙_, subst}
 use mathlib.Core.Bool.{Bool, true, false, cond}
 use mathlib.Core.Option.{Option, none, some, Option·some-injective}
 use mathlib.Core.List.{List, [], _++_}
-use Prim.Native.Nat.{ℕ, zero, suc, _+_, _-_, _*_, _/_, _≤_, _<_}
+use Prim.Native.Nat.{ℕ, zero, suc, _+_, _-_, _*_, _/_, _^_, _≤_, _<_}
 use native.Mathlib.Omega.{arith}
 use lib.Dec.{leb, ltb, eqb}
 use lib.ListN.{length}
-use borrow.Author.Tests.{eqb-true, leb-true, le-leb}
+use borrow.Author.Tests.{eqb-true, leb-true, ltb-true, le-leb}
 use Rattle.words.proofs.CaseLaws.{bool}
 use Rattle.window.specs.Memory.{capacity, pageCount, position}
 use Rattle.window.proofs.MemoryLaws.{capacity-pages, position-lt}
 use Rattle.model.specs.Calls.{Call, insert, exchange, remove, remove-range, clear, clear-bounded, release-retired, set-base, take-front, ask, Answer, done, found, refused}
-use Rattle.model.specs.Table.{Pair, Table, fresh, at, held, finds, valueIf, sequenceAt, putAt, putAnswer, exchangeAt, removeAt, rangeCount, covers, heldInRange, known, argumentRefusal, withPairs, withBase, Outcome, outcome, tableAnswer, tableStep, tableDoes, unlessRefused as unlessInTable}
+use Rattle.model.specs.Table.{Pair, Table, fresh, at, held, finds, valueIf, sequenceAt, putAt, putAnswer, exchangeAt, removeAt, rangeCount, covers, heldInRange, Known, known, argumentRefusal, withPairs, withBase, Outcome, outcome, tableAnswer, tableStep, tableDoes, unlessRefused as unlessInTable}
 use Rattle.model.specs.Roles.{roleOf, toldOf, given, unlessRefused, ifFound}
 use Rattle.model.specs.Demand3.{times, lost}
 use Rattle.model.specs.Positions.{Positions, positions, plain, drain, release, wipe, moved, sweepRange, Result, result, stays, unlessRefused as unlessAtPositions, retiredCount, step, does, freshPositions}
@@ -58,6 +58,9 @@ count-some a b = omega arith
 pub range-taken : (size a b : ℕ) (l : Bool) → argumentRefusal (known size) (remove-range a b l) ≡ 0 → leb (rangeCount a b) size ≡ true
 range-taken size a b true z = bool (leb (rangeCount a b) size) (λ e. e) (λ e. absurd (omega (arith, rw e at z)))
 range-taken size a b false z = absurd (omega (arith, z))
+
+pub base-taken : (k : Known) (s : ℕ) → argumentRefusal k (set-base s) ≡ 0 → s < 2 ^ 31
+base-taken k s z = bool (ltb s (2 ^ 31)) (λ e. ltb-true s (2 ^ 31) e) (λ e. absurd (omega (arith, rw e at z)))
 
 cond-none : (b : Bool) (o : Option Pair) → o ≡ none → cond b none o ≡ none
 cond-none true o e = refl

@@ -1,6 +1,6 @@
 -- What `new` leaves: it reads as the fresh window, whatever the cells held; a fresh window is sound and holds nothing. Assumes nothing.
 use mathlib.Core.Path.{_≡_, refl, sym, ap, _∙_, subst}
-use mathlib.Core.Bool.{true, false, _&&_, true≢false}
+use mathlib.Core.Bool.{true, false, not, _&&_, true≢false}
 use mathlib.Core.Option.{none}
 use mathlib.Core.List.{List, []}
 use Prim.Native.Nat.{ℕ, zero, suc, _+_, _-_, _*_, _/_, _%_, _≤_, _<_}
@@ -15,15 +15,17 @@ use Rattle.words.specs.Word.{bitAt, isSet, countBelow}
 use Rattle.words.proofs.BitLaws.{bit-none}
 use Rattle.words.proofs.CountLaws.{count-none}
 use Rattle.window.specs.declared.AdaptiveReceiverPacketWindow.{AdaptiveReceiverPacketWindow}
-use Rattle.window.specs.Memory.{Memory, capacity, pageCount, blockCount, pageWords, blockWords, zeroed}
+use Rattle.window.specs.Memory.{Memory, capacity, position, pageCount, blockCount, pageWords, blockWords, zeroed}
 use Rattle.window.proofs.MemoryLaws.{page-count-ge}
 use Rattle.window.specs.Refusals.{limits, longEnough, Within, LongEnough}
 use Rattle.window.proofs.RefusalLaws.{limits-within, long-enough-is, is-fit}
 use Rattle.window.specs.New.{fresh, cleared, made, refused, newResult, NewResult, unlessRefused, shortMemory, newOf}
 use Rattle.model.specs.Calls.{done}
+use Rattle.model.specs.Table.{Table, finds, sequenceAt}
+use Rattle.model.specs.Point.{isLive, reach, pointOf}
 use Rattle.model.specs.Window.{Window, noBlock, cellsAt, decode, freshWindow, standsAt, cellOf, isRetired, liveAt, retiredAt, inUse, isReached, iterStep, pairsFrom, livePairs, unreached, retiredValues, capacityOf}
 use Rattle.model.specs.Pages.{valuesIn}
-use Rattle.model.specs.Sound.{Used, SoundPage, liveIn, retiredIn, Sound}
+use Rattle.model.specs.Sound.{Used, SoundPage, liveIn, retiredIn, SoundWithPoint, Sound}
 use Rattle.model.specs.Contract.{State, windowOf, lengthsFit}
 use Rattle.model.specs.Heads.{Began}
 use Rattle.model.proofs.SumLaws.{sum-zero}
@@ -36,6 +38,17 @@ zeroed-at n xs i h =
 
 zeroed-length : (n : ℕ) (xs : List ℕ) → n ≤ length xs → length (zeroed n xs) ≡ length xs
 zeroed-length n xs l = omega (arith, length-append (replicate n 0) (drop n xs), length-replicate {A = ℕ} n 0, length-drop n xs)
+
+-- ---- where nothing is live, the point from base 0 is 0
+
+none-point : (size : ℕ) (t : Table) → ((q : ℕ) → t q ≡ none) → pointOf size t 0 ≡ 0
+unfolding reach
+none-point size t h = ap (sequenceAt 0) (sym (first-eq (λ (d : ℕ). not (isLive size t (sequenceAt 0 d))) size 0 0 (record {
+  from = omega arith;
+  top = omega arith;
+  held = λ l. ap (λ (o : _). not (finds 0 o)) (h (position size 0));
+  none = λ j a b. absurd (omega arith);
+})))
 
 -- ---- what new leaves reads as the fresh window
 module _ (size n d : ℕ) (m : Memory) where
@@ -235,8 +248,13 @@ module _ (size : ℕ) (u : State) (b : Began size u) where
   pub began-fresh : windowOf u ≡ freshWindow size (b .n) (b .demote-at) (b .lent)
   began-fresh = rw (accepted .header, accepted .memory) (new-window size (b .n) (b .demote-at) (b .lent))
 
-  pub began-sound : Sound (windowOf u)
-  began-sound = subst Sound (sym began-fresh) (fresh-sound size (b .n) (b .demote-at) (b .lent) (accepted .within))
+  pub began-sound : SoundWithPoint (windowOf u)
+  unfolding freshWindow fresh
+  began-sound = subst SoundWithPoint (sym began-fresh) (record {
+    sound = fresh-sound size (b .n) (b .demote-at) (b .lent) (accepted .within);
+    base = omega arith;
+    point = sym (none-point size (liveAt (freshWindow size (b .n) (b .demote-at) (b .lent))) (fresh-live size (b .n) (b .demote-at) (b .lent)));
+  })
 
   -- its header and lists fit
   pub began-fits : lengthsFit u ≡ true
