@@ -1,4 +1,5 @@
--- The advance: what it gives, that there is no other, and its steps; the point's distance from its base. Assumes nothing.
+-- The advance: what it gives, that there is no other, and its steps; the point by it, and its distance from its base; two tables with
+-- one point. Assumes nothing.
 use mathlib.Core.Path.{_≡_, refl, sym, ap, _∙_}
 use mathlib.Core.Bool.{Bool, true, false, not}
 use Prim.Native.Nat.{ℕ, suc, _-_, _^_, _≤_, _<_}
@@ -6,8 +7,10 @@ use native.Mathlib.Omega.{arith}
 use native.Mathlib.Decide.{decLe}
 use borrow.Author.Tests.{not-true, not-false}
 use Rattle.words.specs.First.{firstFrom}
-use Rattle.words.proofs.FirstLaws.{first-is, first-eq}
-use Rattle.model.specs.Table.{Table, fresh, sequenceAt}
+use Rattle.words.proofs.FirstLaws.{first-is, first-eq, first-same}
+use Rattle.window.specs.Memory.{capacity, position}
+use Rattle.window.proofs.MemoryLaws.{position-lt}
+use Rattle.model.specs.Table.{Table, fresh, finds, sequenceAt}
 use Rattle.model.specs.Point.{isLive, reach, pointOf}
 use Rattle.laws_acknowledge.specs.Advance.{distance, advance}
 use Rattle.laws_acknowledge.proofs.DistanceLaws.{sequence-zero, sequence-lt, distance-at}
@@ -101,6 +104,29 @@ module _ (size : ℕ) (t : Table) (base : ℕ) where
   -- and at window_size
   pub advance-end : advance size t base size ≡ size
   advance-end = advance-stop size (omega arith) (λ l. absurd (omega arith))
+
+-- ---- two tables
+
+-- with the same sequences live from distance d on: the same advance
+pub advance-same : (size : ℕ) (t u : Table) (base d : ℕ)
+    → ((j : ℕ) → d ≤ j → j < size → isLive size u (sequenceAt base j) ≡ isLive size t (sequenceAt base j))
+    → advance size u base d ≡ advance size t base d
+unfolding advance
+advance-same size t u base d h = first-same (missing size u base) (missing size t base) (size - d) d (λ j l m. ap not (h j l (omega arith)))
+
+-- with the same sequences live below window_size from the base: one point
+pub point-same-from : (size : ℕ) (t u : Table) (base : ℕ)
+    → ((j : ℕ) → j < size → isLive size u (sequenceAt base j) ≡ isLive size t (sequenceAt base j)) → pointOf size u base ≡ pointOf size t base
+point-same-from size t u base h =
+    point-advance size u base ∙ ap (sequenceAt base) (advance-same size t u base 0 (λ j l m. h j m)) ∙ sym (point-advance size t base)
+
+-- so where the same sequences below 2 ^ 31 are live
+pub point-same : (size : ℕ) (t u : Table) (base : ℕ) → ((q : ℕ) → q < 2 ^ 31 → isLive size u q ≡ isLive size t q) → pointOf size u base ≡ pointOf size t base
+point-same size t u base h = point-same-from size t u base (λ j l. h (sequenceAt base j) (sequence-lt base j))
+
+-- and where the same stands at every position
+pub point-alike : (size : ℕ) (t u : Table) (base : ℕ) → ((p : ℕ) → p < capacity size → u p ≡ t p) → pointOf size u base ≡ pointOf size t base
+point-alike size t u base h = point-same size t u base (λ q l. ap (finds q) (h (position size q) (position-lt size q)))
 
 -- nothing is live in a fresh table, and after a clear: the point is the base
 pub point-fresh : (size base : ℕ) → base < 2 ^ 31 → pointOf size fresh base ≡ base
