@@ -1,6 +1,6 @@
 -- insert, exchange, remove: the point after each is the increment of the point before it. Assumes nothing.
-use mathlib.Core.Path.{_≡_, sym, ap, _∙_}
-use mathlib.Core.Bool.{true, false, not, true≢false}
+use mathlib.Core.Path.{_≡_, refl, sym, ap, _∙_}
+use mathlib.Core.Bool.{Bool, true, false, not, true≢false}
 use Prim.Native.Nat.{ℕ, suc, _+_, _^_, _≤_, _<_}
 use native.Mathlib.Omega.{arith}
 use native.Mathlib.Decide.{ℕ-discrete}
@@ -8,7 +8,8 @@ use lib.Dec.{eqb, ltb}
 use borrow.Author.Tests.{eqb-true, eqb-false, ltb-true, ltb-false}
 use Rattle.words.proofs.CaseLaws.{bool}
 use Rattle.window.specs.Memory.{position}
-use Rattle.model.specs.Table.{Table, holds, finds, sequenceAt}
+use Rattle.model.specs.Calls.{insert, exchange, remove}
+use Rattle.model.specs.Table.{Table, holds, finds, sequenceAt, TableState, tableDoes}
 use Rattle.model.specs.Point.{isLive, reach, pointOf}
 use Rattle.laws_acknowledge.specs.Advance.{distance, advance}
 use Rattle.laws_acknowledge.specs.Increments.{inserted, exchanged, removed, afterInsert, afterRemove}
@@ -16,7 +17,23 @@ use Rattle.laws_acknowledge.proofs.DistanceLaws.{sequence-same, distanc
 use Rattle.laws_acknowledge.proofs.AdvanceLaws.{advance-over, reach-is, point-advance, point-eq, point-missed, point-distance, point-same}
 use Rattle.laws_acknowledge.proofs.LiveLaws.{finds-once, insert-other, insert-own, insert-keeps, exchange-live, remove-other, remove-own, remove-drops}
 
--- exchange: the point stays
+-- ---- the tables are those of the plain table's calls
+
+pub insert-table : (size : ℕ) (t : TableState) (s v : ℕ) (listed : Bool) → tableDoes size t (insert s v listed) .after .pairs ≡ inserted size (t .pairs) s v
+unfolding tableDoes
+insert-table size t s v listed = refl
+
+pub exchange-table : (size : ℕ) (t : TableState) (s v : ℕ) → tableDoes size t (exchange s v) .after .pairs ≡ exchanged size (t .pairs) s v
+unfolding tableDoes
+exchange-table size t s v = refl
+
+pub remove-table : (size : ℕ) (t : TableState) (s : ℕ) → tableDoes size t (remove s) .after .pairs ≡ removed size (t .pairs) s
+unfolding tableDoes
+remove-table size t s = refl
+
+-- ---- exchange
+
+-- the point stays
 pub point-exchange : (size : ℕ) (t : Table) (base s v : ℕ) → pointOf size (exchanged size t s v) base ≡ pointOf size t base
 point-exchange size t base s v = point-same size t (exchanged size t s v) base (λ q l. exchange-live size t s v q)
 
