@@ -50,7 +50,7 @@ module _ (cap start count : ℕ) (low : start < cap) (some : 1 ≤ count) where
     start-round : start < b → (start + cap - b) % cap ≡ start + cap - b
     start-round l = mod-eq-of-lt (omega arith)
 
-    -- no position before that distance is covered
+    -- no position before the least covered distance is in the range
     pub least-first : (j : ℕ) → j < leastCovered cap start count b → j < cap → covers cap start count ((b + j) % cap) ≡ false
     least-first j l h = bool (covers cap start count b)
         (λ i. let z = rw i at l in absurd (omega (arith, z)))
@@ -69,11 +69,11 @@ module _ (cap start count : ℕ) (low : start < cap) (some : 1 ≤ count) where
               ]
         ])
 
-    -- and the one at it is
+    -- and the one at that distance is
     pub least-covered : covers cap start count ((b + leastCovered cap start count b) % cap) ≡ true
     least-covered = bool (covers cap start count b)
         (λ i. rw i (let e : b + 0 ≡ b = omega arith in ap (λ (x : ℕ). covers cap start count (x % cap)) e ∙ ap (covers cap start count) (mod-eq-of-lt inside) ∙ i))
-        (λ i. rw i (ap (covers cap start count) (at-start) ∙ covers-once start (omega arith) (omega arith)))
+        (λ i. rw i (ap (covers cap start count) at-start ∙ covers-once start (omega arith) (omega arith)))
       where
         at-start : (b + (start + cap - b) % cap) % cap ≡ start
         at-start =
@@ -120,6 +120,7 @@ module _ (size : ℕ) (t : Table) (base start count : ℕ) (fits : size ≤ 6553
       (ap (covers cap start count) (position-at size base j)
       ∙ least-first cap start count starts some (base % cap) (position-lt size base) j l (omega (arith, size-le size fits)))
 
+  -- remove_range: the point after it
   pub point-range : pointOf size u base ≡ afterRange cap start count base (pointOf size t base)
   point-range =
       let far = point-distance size t base (omega arith) low in

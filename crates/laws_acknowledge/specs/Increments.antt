@@ -47,8 +47,8 @@ afterRange cap start count base point =
 abbrev pub upToPoint : ℕ → (base point s : ℕ) → Bool
 upToPoint size base point s = leb (distance base s) (distance base point) && leb (distance base point) size
 
--- The base set to s, which changes no value. Up to the point all from s to the point are live, and the point stays; but if it was base
--- plus window_size, the advance goes on from there. Else the advance from s.
+-- The base set to s, which changes no value. If s is in base .. point, all from s up to the point are live, and the point stays; but a
+-- point that was base plus window_size may go on, by the advance from there. Else the advance from s.
 -- Taking the front is a removal of the base, and then the base set to the next sequence.
 abbrev pub afterSetBase : ℕ → Table → (base point s : ℕ) → ℕ
 afterSetBase size t base point s =
