@@ -8,3 +8,4 @@ pub mod IncrementLaws
 pub mod RangeLaws
 pub mod BaseLaws
 pub mod Examples
+pub mod WindowLaws

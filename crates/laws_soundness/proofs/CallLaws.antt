@@ -1,6 +1,6 @@
--- Every call keeps a window sound, and its limits. Assumes nothing.
-use mathlib.Core.Path.{_≡_, refl, ap, _∙_}
-use mathlib.Core.Bool.{true}
+-- Every call keeps a window sound, and its sizes; the calls of document 01 leave base and point. Assumes nothing.
+use mathlib.Core.Path.{_≡_, refl, sym, ap, _∙_}
+use mathlib.Core.Bool.{Bool, true, false, true≢false}
 use Prim.Native.Nat.{ℕ, zero, suc, _+_, _^_, _<_}
 use native.Mathlib.Omega.{arith}
 use native.Mathlib.Nat.{mod-lt}
@@ -10,9 +10,9 @@ use Rattle.window.specs.declared.AdaptiveReceiverPacketWindow.{AdaptiveReceiver
 use Rattle.window.specs.Memory.{Memory, position}
 use Rattle.window.proofs.MemoryLaws.{position-lt}
 use Rattle.model.specs.Calls.{Call, insert, exchange, remove, remove-range, clear, clear-bounded, release-retired, set-base, take-front, ask}
-use Rattle.model.specs.Table.{finds, sequenceAt, rangeCount, known, argumentRefusal}
+use Rattle.model.specs.Table.{finds, sequenceAt, rangeCount, argumentRefusal}
 use Rattle.model.specs.Window.{Window, decode, sizeOf, pagesOf, pointFor}
-use Rattle.model.specs.Steps.{headerFrom, setBase, withHeader, release, retireAll, releasePages, liveHere, insertStep, exchangeStep, removeStep, rangeStep, clearStep, clearBoundedStep, releaseStep, frontStep, Effect, effect, unlessRefused, knownBy, repoint, windowActs, windowStep, windowDoes}
+use Rattle.model.specs.Steps.{headerFrom, setBase, withHeader, retireAll, liveHere, removeStep, rangeStep, clearStep, clearBoundedStep, releaseStep, frontStep, Effect, effect, unlessRefused, knownBy, repoint, windowActs, windowStep, windowDoes}
 use Rattle.model.specs.Sound.{SoundWithPoint}
 use Rattle.model.proofs.KeepLaws.{count-some, range-taken, base-taken}
 use Rattle.laws_soundness.specs.Change.{Proper, Limits, SameSizes, SameLimits}
@@ -55,50 +55,81 @@ headed-proper w base point ok =
 
 -- ---- what a call leaves of w
 
-record Keeps (w v : Window) : Type 0 where
-  proper : Proper v
-  sizes : SameSizes w v
-  base : w .header .base < 2 ^ 31 → v .header .base < 2 ^ 31
+-- a call of document 01: base and point as they were
+pub record Leaves (w v : Window) : Type 0 where
+  pub proper : Proper v
+  pub limits : SameLimits w v
+
+abbrev leaves : {w v : Window} → Proper v → SameLimits w v → Leaves w v
+leaves ok same = record { proper = ok; limits = same }
+
+-- every call: a base below 2^31 stays below it
+pub record Keeps (w v : Window) : Type 0 where
+  pub proper : Proper v
+  pub sizes : SameSizes w v
+  pub base : w .header .base < 2 ^ 31 → v .header .base < 2 ^ 31
 
 pub same-sizes : (w v : Window) → SameLimits w v → SameSizes w v
 same-sizes w v = ap (λ (l : Limits). record { size = l .size; cells = l .cells; demote-at = l .demote-at })
 
--- of a call that leaves the base
-limits-keep : (w v : Window) → Proper v → SameLimits w v → Keeps w v
-limits-keep w v ok same =
-    record { proper = ok; sizes = same-sizes w v same; base = λ h. omega (arith, h, ap (λ (l : Limits). l .base) same) }
+leaves-keep : (w v : Window) → Leaves w v → Keeps w v
+leaves-keep w v l =
+    record { proper = l .proper; sizes = same-sizes w v (l .limits); base = λ h. omega (arith, h, ap (λ (x : Limits). x .base) (l .limits)) }
 
 -- the point worked out afresh
 repoint-keeps : (w v : Window) → Keeps w v → Keeps w (repoint v)
 repoint-keeps w v k = record { proper = headed-proper v (v .header .base) (pointFor v) (k .proper); sizes = k .sizes; base = k .base }
 
-module _ (w : Window) (ok : Proper w) where
-  keeps-same : Keeps w w
-  keeps-same = limits-keep w w ok refl
+-- the calls of document 01
+abbrev pub leavesBase : Call → Bool
+leavesBase (insert s v listed) = true
+leavesBase (exchange s v) = true
+leavesBase (remove s) = true
+leavesBase (remove-range a b listed) = true
+leavesBase (clear listed) = true
+leavesBase (clear-bounded n listed) = true
+leavesBase (release-retired b listed) = true
+leavesBase (set-base s) = false
+leavesBase take-front = false
+leavesBase (ask q) = true
 
-  range-keeps : (a b : ℕ) → leb (rangeCount a b) (sizeOf w) ≡ true → Keeps w (rangeStep w (position (sizeOf w) a) (rangeCount a b) .after)
+module _ (w : Window) (ok : Proper w) where
+  range-leaves : (a b : ℕ) → leb (rangeCount a b) (sizeOf w) ≡ true → Leaves w (rangeStep w (position (sizeOf w) a) (rangeCount a b) .after)
   unfolding rangeStep
-  range-keeps a b e =
+  range-leaves a b e =
       let start = position (sizeOf w) a in
       let v = ranged w start (rangeCount a b) in
       let r = retiring-ranged w start (rangeCount a b) ok (position-lt (sizeOf w) a) (count-some a b) (count-few w ok a b e) in
-      limits-keep w (release 256 v .after) (retiring-release v r 256) (retiring-release-limits v r 256 ∙ ranged-limits w start (rangeCount a b))
+      leaves (retiring-release v r 256) (retiring-release-limits v r 256 ∙ ranged-limits w start (rangeCount a b))
 
-  clear-keeps : Keeps w (clearStep w .after)
+  clear-leaves : Leaves w (clearStep w .after)
   unfolding clearStep
-  clear-keeps =
+  clear-leaves =
       let v = retireAll w in
-      limits-keep w (release 256 v .after) (proper-release 256 v (proper-all w ok)) (release-limits 256 v (proper-all w ok) ∙ all-limits w)
+      leaves (proper-release 256 v (proper-all w ok)) (release-limits 256 v (proper-all w ok) ∙ all-limits w)
 
-  clear-bounded-keeps : (n : ℕ) → Keeps w (clearBoundedStep w n .after)
+  clear-bounded-leaves : (n : ℕ) → Leaves w (clearBoundedStep w n .after)
   unfolding clearBoundedStep
-  clear-bounded-keeps n =
+  clear-bounded-leaves n =
       let t = pages-released (pagesOf w) 0 n (retireAll w) (proper-all w ok) (all-len w) (omega (arith, pages-same w (retireAll w) (all-limits w))) in
-      limits-keep w (releasePages (pagesOf w) 0 n (retireAll w) .after) (t .proper) (t .limits ∙ all-limits w)
+      leaves (t .proper) (t .limits ∙ all-limits w)
 
-  release-keeps : (b : ℕ) → Keeps w (releaseStep w b .after)
+  release-leaves : (b : ℕ) → Leaves w (releaseStep w b .after)
   unfolding releaseStep
-  release-keeps b = limits-keep w (release b w .after) (proper-release b w ok) (release-limits b w ok)
+  release-leaves b = leaves (proper-release b w ok) (release-limits b w ok)
+
+  pub does-leaves : (c : Call) → leavesBase c ≡ true → argumentRefusal (knownBy (w .header)) c ≡ 0 → Leaves w (windowDoes w c .after)
+  unfolding windowDoes
+  does-leaves (insert s v listed) own z = leaves (proper-insert w s v ok) (insert-limits w s v)
+  does-leaves (exchange s v) own z = leaves (proper-exchange w s v ok) (exchange-limits w s v)
+  does-leaves (remove s) own z = leaves (proper-remove w s ok) (remove-limits w s)
+  does-leaves (remove-range a b listed) own z = range-leaves a b (range-taken (sizeOf w) a b listed z)
+  does-leaves (clear listed) own z = clear-leaves
+  does-leaves (clear-bounded n listed) own z = clear-bounded-leaves n
+  does-leaves (release-retired b listed) own z = release-leaves b
+  does-leaves (set-base s) own z = absurd (true≢false (sym own))
+  does-leaves take-front own z = absurd (true≢false (sym own))
+  does-leaves (ask q) own z = leaves ok refl
 
   -- the base set to a sequence below 2^31
   base-keeps : (v : Window) (s : ℕ) → s < 2 ^ 31 → Proper v → SameSizes w v → Keeps w (withHeader v (setBase (v .header) s))
@@ -111,37 +142,34 @@ module _ (w : Window) (ok : Proper w) where
       let v = removeStep w s .after in
       bool (finds s (liveHere w s))
       (λ e. rw e (base-keeps v (sequenceAt s 1) (mod-lt (s + 1) {m = 2 ^ 31} (omega arith)) (proper-remove w s ok) (same-sizes w v (remove-limits w s))))
-      (λ e. rw e keeps-same)
+      (λ e. rw e (leaves-keep w w (leaves ok refl)))
 
-  does-keeps : (c : Call) → argumentRefusal (knownBy (w .header)) c ≡ 0 → Keeps w (windowDoes w c .after)
+  left-keeps : (c : Call) → leavesBase c ≡ true → argumentRefusal (knownBy (w .header)) c ≡ 0 → Keeps w (windowDoes w c .after)
+  left-keeps c own z = leaves-keep w (windowDoes w c .after) (does-leaves c own z)
+
+  -- what a call does, the point left as it is
+  pub does-keeps : (c : Call) → argumentRefusal (knownBy (w .header)) c ≡ 0 → Keeps w (windowDoes w c .after)
   unfolding windowDoes
-  does-keeps (insert s v listed) z = limits-keep w (insertStep w s v .after) (proper-insert w s v ok) (insert-limits w s v)
-  does-keeps (exchange s v) z = limits-keep w (exchangeStep w s v .after) (proper-exchange w s v ok) (exchange-limits w s v)
-  does-keeps (remove s) z = limits-keep w (removeStep w s .after) (proper-remove w s ok) (remove-limits w s)
-  does-keeps (remove-range a b listed) z = range-keeps a b (range-taken (sizeOf w) a b listed z)
-  does-keeps (clear listed) z = clear-keeps
-  does-keeps (clear-bounded n listed) z = clear-bounded-keeps n
-  does-keeps (release-retired b listed) z = release-keeps b
-  does-keeps (set-base s) z = base-keeps w s (base-taken (known (sizeOf w)) s z) ok refl
+  does-keeps (insert s v listed) z = left-keeps (insert s v listed) refl z
+  does-keeps (exchange s v) z = left-keeps (exchange s v) refl z
+  does-keeps (remove s) z = left-keeps (remove s) refl z
+  does-keeps (remove-range a b listed) z = left-keeps (remove-range a b listed) refl z
+  does-keeps (clear listed) z = left-keeps (clear listed) refl z
+  does-keeps (clear-bounded n listed) z = left-keeps (clear-bounded n listed) refl z
+  does-keeps (release-retired b listed) z = left-keeps (release-retired b listed) refl z
+  does-keeps (set-base s) z = base-keeps w s (base-taken (knownBy (w .header)) s z) ok refl
   does-keeps take-front z = front-keeps
-  does-keeps (ask q) z = keeps-same
+  does-keeps (ask q) z = left-keeps (ask q) refl z
 
   unless-keeps : (k : ℕ) (e : Effect) → (k ≡ 0 → Keeps w (e .after)) → Keeps w (unlessRefused k w e .after)
   unless-keeps zero e h = h refl
-  unless-keeps (suc k) e h = keeps-same
+  unless-keeps (suc k) e h = leaves-keep w w (leaves ok refl)
 
   call-keeps : (c : Call) → Keeps w (windowStep w c .after)
   call-keeps c = unless-keeps (argumentRefusal (knownBy (w .header)) c) (windowActs w c) (λ z. repoint-keeps w (windowDoes w c .after) (does-keeps c z))
 
-  pub proper-call : (c : Call) → Proper (windowStep w c .after)
-  proper-call c = call-keeps c .proper
-
   pub call-sizes : (c : Call) → SameSizes w (windowStep w c .after)
   call-sizes c = call-keeps c .sizes
-
-  -- what the call does, the point left as it is
-  pub proper-does : (c : Call) → argumentRefusal (knownBy (w .header)) c ≡ 0 → Proper (windowDoes w c .after)
-  proper-does c z = does-keeps c z .proper
 
 -- the point of a refused call stays right, that of any other is worked out afresh
 unless-point : (w : Window) (k : ℕ) (e : Effect) → w .header .point ≡ pointFor w
