@@ -1,12 +1,13 @@
 -- The arguments of a call, tested: over plain variables. Assumes nothing.
 use mathlib.Core.Path.{_≡_, sym, ap, _∙_}
 use mathlib.Core.Bool.{Bool}
-use Prim.Native.Nat.{ℕ, _≤_, _<_}
-use lib.Dec.{leb}
-use borrow.Author.Tests.{le-leb, lt-leb}
+use Prim.Native.Nat.{ℕ, _^_, _≤_, _<_}
+use native.Mathlib.Omega.{arith}
+use lib.Dec.{leb, ltb}
+use borrow.Author.Tests.{le-leb, lt-leb, lt-ltb, le-ltb}
 use Rattle.model.specs.Table.{rangeCount, Known, first, refusedFor}
 use Rattle.call_base.specs.declared.admits.Arguments.{Arguments}
-use Rattle.call_base.specs.declared.admits.Arguments.the-variants.{Range, Number}
+use Rattle.call_base.specs.declared.admits.Arguments.the-variants.{Range, Number, Base}
 use Rattle.call_base.specs.Admits.{argumentsOf}
 
 -- what the arguments a are refused with, tested on k
@@ -24,3 +25,9 @@ number-refused k a n e l = sym (ap (λ (t : Bool). first 8 t 0) (lt-leb n 256 l)
 
 pub number-taken : (k : Known) (a : Arguments) (n : ℕ) → a ≡ Number n → n ≤ 256 → 0 ≡ refusedFor k (argumentsOf a)
 number-taken k a n e l = sym (ap (λ (t : Bool). first 8 t 0) (le-leb n 256 l)) ∙ ap (asked k) (sym e)
+
+pub base-refused : (k : Known) (a : Arguments) (s : ℕ) → a ≡ Base s → 2147483647 < s → 9 ≡ refusedFor k (argumentsOf a)
+base-refused k a s e l = sym (ap (λ (t : Bool). first 9 t 0) (le-ltb s (2 ^ 31) (omega arith))) ∙ ap (asked k) (sym e)
+
+pub base-taken : (k : Known) (a : Arguments) (s : ℕ) → a ≡ Base s → s ≤ 2147483647 → 0 ≡ refusedFor k (argumentsOf a)
+base-taken k a s e l = sym (ap (λ (t : Bool). first 9 t 0) (lt-ltb s (2 ^ 31) (omega arith))) ∙ ap (asked k) (sym e)

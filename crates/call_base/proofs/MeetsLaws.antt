@@ -22,15 +22,15 @@ use Rattle.model.specs.Calls as model
 use Rattle.model.specs.Calls.{Query, Call, ask, refused}
 use Rattle.model.specs.Roles.{askedOf, roleOf}
 use Rattle.model.specs.Table.{first, refusedFor, hasPlaces, argumentRefusal}
-use Rattle.model.specs.Window.{Window}
-use Rattle.model.specs.Steps.{Effect, unlessRefused, knownBy, windowAnswer, windowDoes, windowStep}
-use Rattle.model.specs.Sound.{Sound}
+use Rattle.model.specs.Window.{Window, decode, pointFor}
+use Rattle.model.specs.Steps.{setPoint, withHeader, Effect, unlessRefused, knownBy, windowAnswer, windowDoes, repoint, windowActs, windowStep}
+use Rattle.model.specs.Sound.{Sound, SoundWithPoint}
 use Rattle.model.specs.Contract.{State, windowOf, Left, lengthsFit, refusal, Unaltered, DoesAs, Does, Meets, SamePast, SameLengths}
 use Rattle.page_base.proofs.DecodeLaws.{header-at}
 use Rattle.page_remove.proofs.WroteLaws.{stretch-length}
 use Rattle.call_base.specs.Answers.{answerOf, replied, refusedBy, leftOf}
 use Rattle.call_base.specs.Admits.{admission}
-use Rattle.call_base.specs.Contracts.{Admitted, Tells, Fills}
+use Rattle.call_base.specs.Contracts.{Admitted, Acts, Tells, Fills}
 
 -- ---- the contract
 
@@ -72,14 +72,16 @@ unless-none : (k : ℕ) (w : Window) (e : Effect) → k ≡ 0 → unlessRefused 
 unless-none zero w e z = refl
 unless-none (suc k) w e z = absurd (omega arith)
 
-step-does : (c : Call) (u : State) → refusal u c ≡ 0 → windowStep (windowOf u) c ≡ windowDoes (windowOf u) c
-step-does c u z =
-    unless-none (argumentRefusal (knownBy (windowOf u .header)) c) (windowOf u) (windowDoes (windowOf u) c)
-    (rw (header-at (u .header) (u .memory)) (tested 6 (lengthsFit u) _ (λ k. omega arith) z .1))
+-- the window is asked for no refusal either
+none-asked : (c : Call) (u : State) → refusal u c ≡ 0 → argumentRefusal (knownBy (windowOf u .header)) c ≡ 0
+none-asked c u z = rw (header-at (u .header) (u .memory)) (tested 6 (lengthsFit u) _ (λ k. omega arith) z .1)
 
-does-as : (c : Call) (u : State) (r : Left) → refusal u c ≡ 0 → DoesAs windowDoes Sound c (windowOf u) r → Does c (windowOf u) r
+step-acts : (c : Call) (u : State) → refusal u c ≡ 0 → windowStep (windowOf u) c ≡ windowActs (windowOf u) c
+step-acts c u z = unless-none (argumentRefusal (knownBy (windowOf u .header)) c) (windowOf u) (windowActs (windowOf u) c) (none-asked c u z)
+
+does-as : (c : Call) (u : State) (r : Left) → refusal u c ≡ 0 → DoesAs windowActs SoundWithPoint c (windowOf u) r → Does c (windowOf u) r
 does-as c u r z d =
-    let e = step-does c u z in
+    let e = step-acts c u z in
     record {
       answer = d .answer ∙ ap (λ (x : Effect). x .answer) (sym e);
       window = d .window ∙ ap (λ (x : Effect). x .after) (sym e);
@@ -87,13 +89,59 @@ does-as c u r z d =
       count = d .count ∙ ap (λ (x : Effect). length (x .returned)) (sym e);
     }
 
+-- ---- the point
+
+-- a point that is right stays as it is
+pub current : (w : Window) → SoundWithPoint w → repoint w ≡ w
+current w ok = ap (λ (p : ℕ). withHeader w (setPoint (w .header) p)) (sym (ok .point))
+
+-- what a call left, with another point
+abbrev pub leftWith : Left → ℕ → Left
+leftWith r p = record { answer = r .answer; count = r .count; state = record { header = setPoint (r .state .header) p; memory = r .state .memory }; list = r .list }
+
+repointed : (u : State) (p : ℕ) → p ≡ pointFor (windowOf u) → windowOf (record { header = setPoint (u .header) p; memory = u .memory }) ≡ repoint (windowOf u)
+unfolding decode
+repointed u p e = ap (λ (q : ℕ). withHeader (windowOf u) (setPoint (u .header) q)) e
+
+-- a call that did all but the point, and then set the point to the right one
+pub pointed-acts : (c : Call) (u : State) (l : List ℕ) (r : Left) (p : ℕ) → Admitted c u l r
+    → (SoundWithPoint (windowOf u) → p ≡ pointFor (windowOf (r .state)))
+    → (r .answer ≡ refused 4 → p ≡ r .state .header .point)
+    → Acts c u l (leftWith r p)
+pointed-acts c u l r p a right stays = record {
+  sound = λ ok. let d = a .sound (ok .sound) in record {
+    answer = d .answer;
+    window = repointed (r .state) p (right ok) ∙ ap repoint (d .window);
+    returned = d .returned;
+    count = d .count;
+  };
+  occupied = λ ok e. let t = a .occupied (ok .sound) e in record {
+    state = ap (λ (q : ℕ). record { header = setPoint (r .state .header) q; memory = r .state .memory }) (stays e) ∙ t .state;
+    list = t .list;
+    count = t .count;
+  };
+  none-with-4 = a .none-with-4;
+  past-list = a .past-list;
+  long-list = a .long-list;
+  count-fits = a .count-fits;
+  past-memory = a .past-memory;
+  lengths = a .lengths;
+}
+
+-- a call after which the point that was there is still right
+pub still-acts : (c : Call) (u : State) (l : List ℕ) (r : Left) → Admitted c u l r
+    → (SoundWithPoint (windowOf u) → r .state .header .point ≡ pointFor (windowOf (r .state))) → Acts c u l r
+still-acts c u l r a right = pointed-acts c u l r (r .state .header .point) a right (λ e. refl)
+
+-- ---- calls that are admitted
+
 -- a query that is not refused, and what it answers
-read-meets : (q : Query) (u : State) (a : model.Answer) → (askedOf q .checks ≡ true → (Sound (windowOf u) → ⊥) → a ≡ refused 7) → refusal u (ask q) ≡ 0
+read-meets : (q : Query) (u : State) (a : model.Answer) → (askedOf q .checks ≡ true → (SoundWithPoint (windowOf u) → ⊥) → a ≡ refused 7) → refusal u (ask q) ≡ 0
     → (Sound (windowOf u) → a ≡ windowAnswer (windowOf u) q) → Meets (ask q) u [] (leaves u [] a)
 unfolding windowDoes
 read-meets q u a unsound e is = record {
   refuses = λ h. absurd (h e);
-  sound = λ z ok. does-as (ask q) u (leaves u [] a) e (record { answer = is ok; window = refl; returned = refl; count = refl });
+  sound = λ z ok. does-as (ask q) u (leaves u [] a) e (record { answer = is (ok .sound); window = sym (current (windowOf u) ok); returned = refl; count = refl });
   occupied = λ z ok b. unaltered u [] a;
   none-with-4 = λ b. refl;
   unsound = λ k z not-sound. unsound k not-sound;
@@ -105,7 +153,7 @@ read-meets q u a unsound e is = record {
   lengths = same-lengths u;
 }
 
-write-meets : (c : Call) (u : State) (l : List ℕ) (r : Left) → roleOf c .checks ≡ false → refusal u c ≡ 0 → Admitted c u l r → Meets c u l r
+write-meets : (c : Call) (u : State) (l : List ℕ) (r : Left) → roleOf c .checks ≡ false → refusal u c ≡ 0 → Acts c u l r → Meets c u l r
 write-meets c u l r n e t = record {
   refuses = λ h. absurd (h e);
   sound = λ z ok. does-as c u r e (t .sound ok);
@@ -184,13 +232,17 @@ module _ (c : Call) (u : State) (places : ℕ) (listed : hasPlaces (roleOf c .li
     pub admitted-arguments : refusedFor (knownBy (u .header)) (roleOf c .arguments) ≡ 0
     admitted-arguments = arguments-taken .1
 
-    pub admitted-meets : (l : List ℕ) (r : Left) → roleOf c .checks ≡ false → Admitted c u l r → Meets c u l r
+    -- the window is asked for no refusal
+    pub window-asked : argumentRefusal (knownBy (windowOf u .header)) c ≡ 0
+    window-asked = none-asked c u none-applies
+
+    pub admitted-meets : (l : List ℕ) (r : Left) → roleOf c .checks ≡ false → Acts c u l r → Meets c u l r
     admitted-meets l r other a = write-meets c u l r other none-applies a
 
     -- a call that fills its return list
-    pub filled-meets : (l : List ℕ) (r : Left) → roleOf c .checks ≡ false → places ≡ length l
-        → (step : Window → Effect) → step (windowOf u) ≡ windowDoes (windowOf u) c → Fills step u l r → Meets c u l r
-    filled-meets l r other long step is t = admitted-meets l r other (fills-admitted step c u l r (omega (arith, admitted-places)) is t)
+    pub filled-admitted : (l : List ℕ) (r : Left) → places ≡ length l
+        → (step : Window → Effect) → step (windowOf u) ≡ windowDoes (windowOf u) c → Fills step u l r → Admitted c u l r
+    filled-admitted l r long step is t = fills-admitted step c u l r (omega (arith, admitted-places)) is t
 
 -- ---- queries
 
@@ -206,7 +258,7 @@ module _ (q : Query) (u : State) (t : Verdict)
     pub asked-arguments : refusedFor (knownBy (u .header)) (askedOf q .arguments) ≡ 0
     asked-arguments = admitted-arguments (ask q) u 384 refl t test pass
 
-    pub asked-meets : (a : Answer) (r : Step) → r ≡ replied (u .header) a → (askedOf q .checks ≡ true → (Sound (windowOf u) → ⊥) → answerOf a ≡ refused 7)
+    pub asked-meets : (a : Answer) (r : Step) → r ≡ replied (u .header) a → (askedOf q .checks ≡ true → (SoundWithPoint (windowOf u) → ⊥) → answerOf a ≡ refused 7)
         → Tells q u a → Meets (ask q) u [] (leftOf r (u .memory) [])
     asked-meets a r e unsound tells =
         subst (λ (x : Step). Meets (ask q) u [] (leftOf x (u .memory) [])) (sym e)

@@ -6,7 +6,7 @@ use Rattle.model.specs.Roles as model
 use Rattle.model.specs.Table.{first, refusedFor}
 use Rattle.model.specs.Steps.{knownBy}
 use Rattle.call_base.specs.declared.admits.Arguments.{Arguments}
-use Rattle.call_base.specs.declared.admits.Arguments.the-variants.{Nothing, Sequence, Range, Number}
+use Rattle.call_base.specs.declared.admits.Arguments.the-variants.{Nothing, Sequence, Range, Number, Base}
 
 -- the arguments as the order of refusals has them
 abbrev pub argumentsOf : Arguments → model.Arguments
@@ -14,6 +14,7 @@ argumentsOf Nothing = model.no-argument
 argumentsOf (Sequence s) = model.sequence-argument s
 argumentsOf (Range a b) = model.range-argument a b
 argumentsOf (Number n) = model.number-argument n
+argumentsOf (Base s) = model.base-argument s
 
 -- the refusal of a call with lists of these lengths and these arguments; 0 for none
 abbrev pub admission : AdaptiveReceiverPacketWindow → (sequences values pages blocks returned : ℕ) → model.Arguments → ℕ

@@ -12,8 +12,8 @@ use Rattle.window.specs.declared.answers.Step.{Step}
 use Rattle.window.specs.Lent.{Lent, foundIn, leftIn}
 use Rattle.model.specs.Window.{Window, isRetired, pagesOf}
 use Rattle.model.specs.Calls.{Query, Call, refused}
-use Rattle.model.specs.Steps.{Effect, effect, windowAnswer, windowDoes}
-use Rattle.model.specs.Sound.{Sound}
+use Rattle.model.specs.Steps.{Effect, effect, windowAnswer, windowDoes, windowActs}
+use Rattle.model.specs.Sound.{Sound, SoundWithPoint}
 use Rattle.model.specs.Contract.{State, Left, windowOf, SamePast, SameLengths, Unaltered, DoesAs}
 use Rattle.page_remove.specs.Contracts.{Wrote, stretch}
 use Rattle.block_marks.specs.Blocks.{blockWordsAt, blockOf}
@@ -38,9 +38,13 @@ module _ (step : Window → Call → Effect) (Ok : Window → Type 0) where
     pub past-memory : SamePast (u .header .«window_size») (u .memory) (r .state .memory)
     pub lengths : SameLengths (u .memory) (r .state .memory)
 
--- what the call does, on sound windows
+-- what the call does, the point left as it is
 abbrev pub Admitted : Call → State → List ℕ → Left → Type 0
 Admitted = AdmittedAs windowDoes Sound
+
+-- and with the point worked out afresh
+abbrev pub Acts : Call → State → List ℕ → Left → Type 0
+Acts = AdmittedAs windowActs SoundWithPoint
 
 -- the same as a signature says it, without and with a return list
 abbrev pub AdmittedBy : Call → AdaptiveReceiverPacketWindow → (sequences values pages blocks : Lent) → Step → Type 0

@@ -1,4 +1,4 @@
-// The refusals that are decided before the window is looked at, in document 01's order: the header and the lists, then the arguments.
+// The refusals that are decided before the window is looked at, in the papers' order: the header and the lists, then the arguments.
 use crate::range_count;
 use window::AdaptiveReceiverPacketWindow;
 use window::refusals::Refusal;
@@ -16,6 +16,7 @@ pub enum Arguments {
     Sequence(u32),
     Range(u32, u32),
     Number(u32),
+    Base(u32),
 }
 
 // The places that a call which takes no return list names for it: enough.
@@ -37,6 +38,12 @@ fn refused_for(w: AdaptiveReceiverPacketWindow, arguments: Arguments) -> Verdict
         Arguments::Number(number) => {
             if AdaptiveReceiverPacketWindow::MAX_RETIRED_RELEASED_PER_VISIT < number as usize {
                 return Verdict::Refuse(Refusal::Budget);
+            }
+            Verdict::Pass
+        }
+        Arguments::Base(base) => {
+            if 0x7fff_ffff < base {
+                return Verdict::Refuse(Refusal::Base);
             }
             Verdict::Pass
         }

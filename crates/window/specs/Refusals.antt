@@ -1,16 +1,17 @@
--- Document 01, 'Refusal by operation': the number of each refusal, and when those that calls share apply.
+-- Document 01, 'Refusal by operation': the number of each refusal, with those that requests add, and when those that calls share
+-- apply.
 -- Definitions only; their laws are in RefusalLaws. Assumes nothing.
 use mathlib.Core.Bool.{Bool, cond, _&&_, _||_}
 use Prim.Native.Nat.{ℕ, _*_, _≤_}
 use lib.Dec.{eqb, ltb, leb}
 use Rattle.window.specs.declared.AdaptiveReceiverPacketWindow.{AdaptiveReceiverPacketWindow}
 use Rattle.window.specs.declared.refusals.Refusal.{Refusal}
-use Rattle.window.specs.declared.refusals.Refusal.the-variants.{WindowSize, SparseCells, DemoteAt, Occupied, RangeCount, ShortMemory, Unsound, Budget}
+use Rattle.window.specs.declared.refusals.Refusal.the-variants.{WindowSize, SparseCells, DemoteAt, Occupied, RangeCount, ShortMemory, Unsound, Budget, Base}
 use Rattle.window.specs.declared.refusals.Verdict.{Verdict}
 use Rattle.window.specs.declared.refusals.Verdict.the-variants.{Pass, Refuse}
 use Rattle.window.specs.Memory.{capacity, pageCount, blockCount, pageWords, blockWords}
 
--- document 01's number of each refusal
+-- the number of each refusal
 abbrev pub refusalNumber : Refusal → ℕ
 refusalNumber WindowSize = 1
 refusalNumber SparseCells = 2
@@ -20,6 +21,8 @@ refusalNumber RangeCount = 5
 refusalNumber ShortMemory = 6
 refusalNumber Unsound = 7
 refusalNumber Budget = 8
+-- document 02, S-1: "9, a base of 2147483648 or more"
+refusalNumber Base = 9
 
 -- of a verdict: 0 if it passes
 abbrev pub verdictNumber : Verdict → ℕ

@@ -9,7 +9,7 @@ ghost use mathlib.Core.Path.{_≡_};
 ghost use Prim.Native.Nat.{_≤_};
 ghost use Rattle.window.specs.Refusals.{refusalNumber, verdictNumber, limits as limitsOf, longEnough, fits as fitsOf, fitsWithList};
 
-// The refusals of document 01, in the order of their numbers 1 to 8 (`refusalNumber`).
+// The refusals of documents 01 and 02, in the order of their numbers 1 to 9 (`refusalNumber`).
 pub enum Refusal {
     WindowSize,
     SparseCells,
@@ -19,9 +19,10 @@ pub enum Refusal {
     ShortMemory,
     Unsound,
     Budget,
+    Base,
 }
 
-// Document 01's number of a refusal.
+// The number of a refusal.
 pub fn refusal_number(why: Refusal) -> u32
     ensures { λ r. ⌜ r ≡ refusalNumber why ⌝ }
 {
@@ -34,6 +35,7 @@ pub fn refusal_number(why: Refusal) -> u32
         Refusal::ShortMemory => 6,
         Refusal::Unsound => 7,
         Refusal::Budget => 8,
+        Refusal::Base => 9,
     }
 }
 

@@ -1,6 +1,6 @@
--- Each class of arguments is tested as the definition tests it (Refusing). Assumes nothing.
+-- Each class of arguments is tested as the definition tests it (ArgumentLaws). Assumes nothing.
 use Rattle.model.specs.Steps.{knownBy}
-use Rattle.call_base.proofs.ArgumentLaws.{range-refused, range-taken, number-refused, number-taken}
+use Rattle.call_base.proofs.ArgumentLaws.{range-refused, range-taken, number-refused, number-taken, base-refused, base-taken}
 use borrow.Author.Needs.{needs}
 use Rattle.call_base.proofs.admits.refused_for.Statement.{statement}
 use Rattle.call_base.proofs.admits.refused_for.Tie as tie
@@ -37,22 +37,35 @@ returns-2 c =
     let s = c .before .before .before .before .args in
     number-refused (knownBy (s .w)) (s .arguments) _ (c .before .before .arguments3 .given .1) (c .if2 .taken)
 
+enum-known-arguments-4 : tie.Need-enum-known-arguments-4
+enum-known-arguments-4 c = search needs
+
 returns-3 : tie.Need-returns-3
-returns-3 c = search needs
+returns-3 c =
+    let s = c .before .before .before .before .args in
+    base-refused (knownBy (s .w)) (s .arguments) _ (c .before .before .arguments4 .given .1) (c .if3 .taken)
 
 returns-4 : tie.Need-returns-4
 returns-4 c = search needs
 
 returns-5 : tie.Need-returns-5
-returns-5 c =
+returns-5 c = search needs
+
+returns-6 : tie.Need-returns-6
+returns-6 c =
     let s = c .before .before .before .before .before .before .args in
     let g = c .before .before .before .before .arguments2 .given in
     range-taken (knownBy (s .w)) (s .arguments) _ _ _ (g .1) (c .before .before .range-count .ensures) (c .if1 .left)
 
-returns-6 : tie.Need-returns-6
-returns-6 c =
+returns-7 : tie.Need-returns-7
+returns-7 c =
     let s = c .before .before .before .before .args in
     number-taken (knownBy (s .w)) (s .arguments) _ (c .before .before .arguments3 .given .1) (c .if2 .left)
+
+returns-8 : tie.Need-returns-8
+returns-8 c =
+    let s = c .before .before .before .before .args in
+    base-taken (knownBy (s .w)) (s .arguments) _ (c .before .before .arguments4 .given .1) (c .if3 .left)
 
 pub refused-for-spec : {M : Type 1} → statement M
 refused-for-spec =
@@ -66,7 +79,10 @@ refused-for-spec =
     enum-known-arguments-3
     cast-if2
     returns-2
+    enum-known-arguments-4
     returns-3
     returns-4
     returns-5
-    returns-6)
+    returns-6
+    returns-7
+    returns-8)
