@@ -44,16 +44,24 @@ by-calls :
     -- none is missing where the first visit has emptied its page, or the one visit ends with an inspection
     × (visits cleared (5 ∷ 3 ∷ []) ≡ upTo 252 256 ∷ upTo 256 258 ∷ []) × (visits cleared (8 ∷ []) ≡ upTo 252 258 ∷ [])
     × (visits cleared (3 ∷ 3 ∷ []) ≡ upTo 252 254 ∷ upTo 254 256 ∷ []) × (visits cleared (6 ∷ []) ≡ upTo 252 256 ∷ [])
-    -- a budget of 0 changes nothing, one of 1 is an inspection
-    × (visits cleared (0 ∷ 4 ∷ []) ≡ [] ∷ upTo 252 255 ∷ []) × (visits cleared (4 ∷ 0 ∷ []) ≡ upTo 252 255 ∷ [] ∷ [])
+unfolding firstFrom firstRound bitAt withBit countBelow span wordBelow lowest capacity freshHeader freshWindow sum cellOf freeCell promoted nthSet packed insertPage drainPage noteNonempty splitBlock releasePage nextRetired releaseUnits revive retireAll insertStep clearStep releaseStep windowDoes
+by-calls = (refl, refl, refl, refl, refl, refl)
+
+-- a budget of 0 changes nothing, one of 1 is an inspection
+small-budgets :
+    (visits cleared (0 ∷ 4 ∷ []) ≡ [] ∷ upTo 252 255 ∷ []) × (visits cleared (4 ∷ 0 ∷ []) ≡ upTo 252 255 ∷ [] ∷ [])
     × (visits cleared (1 ∷ 3 ∷ []) ≡ [] ∷ upTo 252 254 ∷ []) × (visits cleared (3 ∷ 1 ∷ []) ≡ upTo 252 254 ∷ [] ∷ [])
     × (visits cleared (0 ∷ 0 ∷ []) ≡ [] ∷ [] ∷ []) × (visits cleared (1 ∷ 1 ∷ []) ≡ [] ∷ [] ∷ []) × (visits cleared (2 ∷ []) ≡ upTo 252 253 ∷ [])
+unfolding firstFrom firstRound bitAt withBit countBelow span wordBelow lowest capacity freshHeader freshWindow sum cellOf freeCell promoted nthSet packed insertPage drainPage noteNonempty splitBlock releasePage nextRetired releaseUnits revive retireAll insertStep clearStep releaseStep windowDoes
+small-budgets = (refl, refl, refl, refl, refl, refl, refl)
+
+more-calls :
     -- from a page half released
-    × (visits half (2 ∷ 4 ∷ []) ≡ upTo 254 255 ∷ upTo 255 257 ∷ []) × (visits half (6 ∷ []) ≡ upTo 254 258 ∷ [])
+    (visits half (2 ∷ 4 ∷ []) ≡ upTo 254 255 ∷ upTo 255 257 ∷ []) × (visits half (6 ∷ []) ≡ upTo 254 258 ∷ [])
     -- the largest sum
     × (visits cleared (128 ∷ 128 ∷ []) ≡ upTo 252 377 ∷ upTo 377 502 ∷ []) × (visits cleared (256 ∷ []) ≡ upTo 252 503 ∷ [])
 unfolding firstFrom firstRound bitAt withBit countBelow span wordBelow lowest capacity freshHeader freshWindow sum cellOf freeCell promoted nthSet packed insertPage drainPage noteNonempty splitBlock releasePage nextRetired releaseUnits revive retireAll insertStep clearStep releaseStep windowDoes
-by-calls = (refl, refl, refl, refl, refl, refl, refl, refl, refl, refl, refl, refl, refl, refl, refl, refl, refl)
+more-calls = (refl, refl, refl, refl)
 
 -- refused calls, for the return list and for the budget, return nothing and leave the window
 refused-calls :

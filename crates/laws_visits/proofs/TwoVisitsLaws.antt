@@ -103,7 +103,7 @@ call-queues u v b xs ok l x =
     let r = call-refines size u v e s (x .1) in
     let p = positionsIn u in
     let pages : pagesOf (windowOf u) ≡ pageCount size = ap (λ h. pageCount (h .«window_size»)) (header-at (u .header) (u .memory)) in
-    let q = release-as-visit (pageCount size) b b (p .retired) (p .cursor) (omega (arith, ok .cursor, pages)) (omega arith) in
+    let q = release-as-visit (pageCount size) b b (p .retired) (p .cursor) (omega (arith, ok .sound .cursor, pages)) (omega arith) in
     let here = fit-queue size u s in
     record {
       ok = r .ok .sound;

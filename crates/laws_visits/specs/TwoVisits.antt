@@ -9,7 +9,7 @@ use lib.ListN.{length}
 use Rattle.model.specs.Calls.{release-retired, Answer, refused}
 use Rattle.model.specs.Window.{Window}
 use Rattle.model.specs.Steps.{release}
-use Rattle.model.specs.Sound.{Sound}
+use Rattle.model.specs.Sound.{Sound, SoundWithPoint}
 use Rattle.model.specs.Contract.{State, windowOf, refusal}
 use Rattle.model.specs.Heads.{Stepped}
 
@@ -52,7 +52,7 @@ abbrev pub CallVisit : State → ℕ → List ℕ → State → Type 0
 CallVisit u b xs v = (answer : Answer) × ReleaseRetired u b true answer xs v
 
 abbrev pub IsSound : State → Type 0
-IsSound u = Sound (windowOf u)
+IsSound u = SoundWithPoint (windowOf u)
 
 -- A call whose return list is too short, or whose budget is above 256, is refused and returns nothing: it is no visit. It leaves the
 -- state, on every state, so that the claims hold of visits between which such calls were made.
@@ -69,7 +69,7 @@ WindowVisit w b xs v = (release b w .out ≡ xs) × (release b w .after ≡ v)
 
 -- the window of a sound state
 abbrev pub SoundWindow : Window → Type 0
-SoundWindow w = (u : State) × (windowOf u ≡ w) × IsSound u
+SoundWindow w = (u : State) × (windowOf u ≡ w) × Sound (windowOf u)
 
 -- ---- "Show this for every sound state."
 
