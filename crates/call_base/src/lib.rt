@@ -55,10 +55,16 @@ pub fn reachable(w: AdaptiveReceiverPacketWindow, blocks: &[u64], page: usize) -
     1 - page_retired(blocks, w.retired_blocks, page)
 }
 
-// How many positions a range has: the distance from first to last, of 31 bits, and one.
+// How far a sequence is from a base: 31 bits.
+pub fn distance(base: u32, sequence: u32) -> u32
+    ensures { λ r. ⌜ r ≡ distanceOf base sequence ⌝ }
+{
+    std::num::wrapping_sub_u32(sequence, base) % 0x8000_0000
+}
+
+// How many positions a range has: the distance from first to last, and one.
 pub fn range_count(first: u32, last: u32) -> u32
     ensures { λ r. ⌜ r ≡ rangeCount first last ⌝ }
 {
-    let distance = std::num::wrapping_sub_u32(last, first);
-    distance % 0x8000_0000 + 1
+    distance(first, last) + 1
 }

@@ -1,0 +1,187 @@
+// The acknowledge point: the first sequence from the base that is not live, and how each call keeps it current. run.rt has the live
+// sequences of one page.
+pub mod run;
+
+use call_base::distance;
+use call_base::reachable;
+use page_base::page_cells;
+use page_base::page_words;
+use run::page_run;
+use window::AdaptiveReceiverPacketWindow;
+use window::memory::PAGE_SLOTS;
+use window::memory::position;
+
+// The sequence at distance `d` from the base: sums are modulo 2^31.
+pub fn sequence_at(base: u32, d: u32) -> u32
+{
+    std::num::wrapping_add_u32(base, d) % 0x8000_0000
+}
+
+// The first position from the sequence's own on, in its page, at which the sequence expected there is not live; 64 if all are.
+fn live_run(
+    w: AdaptiveReceiverPacketWindow,
+    sequences: &[u32],
+    pages: &[u64],
+    blocks: &[u64],
+    sequence: u32,
+) -> usize
+{
+    let page = position(w.window_size, sequence) / PAGE_SLOTS;
+    let slot = (sequence % 64) as usize;
+    if reachable(w, blocks, page) == 0 {
+        return slot;
+    }
+    let words = page_words(pages, page);
+    let cells = page_cells(sequences, page);
+    page_run(cells, words, w.n as usize, slot, sequence / 64)
+}
+
+// The first distance from `from` on whose sequence is not live, page by page; window_size if there is none below it.
+pub fn advance(
+    w: AdaptiveReceiverPacketWindow,
+    sequences: &[u32],
+    pages: &[u64],
+    blocks: &[u64],
+    base: u32,
+    from: u32,
+) -> u32
+{
+    let size = w.window_size;
+    let mut d = from;
+    while d < size {
+        let sequence = sequence_at(base, d);
+        let end = live_run(w, sequences, pages, blocks, sequence) as u32;
+        let next = d + (end - sequence % 64);
+        if size <= next {
+            return size;
+        }
+        if end < 64 {
+            return next;
+        }
+        d = next;
+    }
+    size
+}
+
+// The point, where the sequences before distance `from` are known to be live.
+pub fn point_from(
+    w: AdaptiveReceiverPacketWindow,
+    sequences: &[u32],
+    pages: &[u64],
+    blocks: &[u64],
+    base: u32,
+    from: u32,
+) -> u32
+{
+    sequence_at(base, advance(w, sequences, pages, blocks, base, from))
+}
+
+// The header with another point.
+pub fn with_point(w: AdaptiveReceiverPacketWindow, point: u32) -> AdaptiveReceiverPacketWindow
+{
+    let mut v = w;
+    v.point = point;
+    v
+}
+
+// After an insert that put a new pair: only at the point does it move.
+pub fn after_insert(
+    w: AdaptiveReceiverPacketWindow,
+    sequences: &[u32],
+    pages: &[u64],
+    blocks: &[u64],
+    sequence: u32,
+) -> AdaptiveReceiverPacketWindow
+{
+    let reach = distance(w.base, w.point);
+    if sequence != w.point {
+        return w;
+    }
+    if w.window_size <= reach {
+        return w;
+    }
+    with_point(w, point_from(w, sequences, pages, blocks, w.base, reach + 1))
+}
+
+// After a remove that found its sequence: before the point, it becomes the point.
+pub fn after_remove(w: AdaptiveReceiverPacketWindow, sequence: u32) -> AdaptiveReceiverPacketWindow
+{
+    if distance(w.base, sequence) < distance(w.base, w.point) {
+        return with_point(w, sequence);
+    }
+    w
+}
+
+// How far from the base the first position is that a range of `count` positions from first's covers.
+fn first_covered(w: AdaptiveReceiverPacketWindow, first: u32, count: usize) -> u32
+{
+    let past = position(w.window_size, std::num::wrapping_sub_u32(w.base, first));
+    if past < count {
+        return 0;
+    }
+    position(w.window_size, std::num::wrapping_sub_u32(first, w.base)) as u32
+}
+
+// After a range was removed: where it covers a position before the point, the first of these becomes the point.
+pub fn after_range(w: AdaptiveReceiverPacketWindow, first: u32, count: usize) -> AdaptiveReceiverPacketWindow
+{
+    let d = first_covered(w, first, count);
+    if d < distance(w.base, w.point) {
+        return with_point(w, sequence_at(w.base, d));
+    }
+    w
+}
+
+// After everything was removed.
+pub fn after_clear(w: AdaptiveReceiverPacketWindow) -> AdaptiveReceiverPacketWindow
+{
+    with_point(w, w.base)
+}
+
+// The point for another base: it stays if that lies in base .. point, but for the advance past the old limit.
+fn moved_point(
+    w: AdaptiveReceiverPacketWindow,
+    sequences: &[u32],
+    pages: &[u64],
+    blocks: &[u64],
+    base: u32,
+) -> u32
+{
+    let size = w.window_size;
+    let reach = distance(w.base, w.point);
+    let d = distance(w.base, base);
+    if reach < d {
+        return point_from(w, sequences, pages, blocks, base, 0);
+    }
+    if size < reach {
+        return point_from(w, sequences, pages, blocks, base, 0);
+    }
+    if reach < size {
+        return w.point;
+    }
+    point_from(w, sequences, pages, blocks, base, size - d)
+}
+
+// The header with another base.
+pub fn after_base(
+    w: AdaptiveReceiverPacketWindow,
+    sequences: &[u32],
+    pages: &[u64],
+    blocks: &[u64],
+    base: u32,
+) -> AdaptiveReceiverPacketWindow
+{
+    let mut v = w;
+    v.point = moved_point(w, sequences, pages, blocks, base);
+    v.base = base;
+    v
+}
+
+// Whether the base is below 2^31 and the point is the one worked out afresh.
+pub fn is_current(w: AdaptiveReceiverPacketWindow, sequences: &[u32], pages: &[u64], blocks: &[u64]) -> bool
+{
+    if 0x7fff_ffff < w.base {
+        return false;
+    }
+    w.point == point_from(w, sequences, pages, blocks, w.base, 0)
+}
