@@ -1,0 +1,10 @@
+-- Distances from a base and positions (DistanceLaws); the advance, and the point by it (AdvanceLaws). Which sequences are live after a
+-- call (LiveLaws), and the point after insert, exchange and remove (IncrementLaws), after remove_range (RangeLaws), and with the base
+-- moved (BaseLaws). Some of it computed (Examples).
+pub mod DistanceLaws
+pub mod AdvanceLaws
+pub mod LiveLaws
+pub mod IncrementLaws
+pub mod RangeLaws
+pub mod BaseLaws
+pub mod Examples

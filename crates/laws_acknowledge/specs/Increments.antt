@@ -1,0 +1,51 @@
+-- What each call, and a base set, makes of the acknowledge point before it: a few comparisons, and an advance where the point may go
+-- on. That each is the point worked out afresh: IncrementLaws, RangeLaws and BaseLaws. Definitions only. Assumes nothing.
+use mathlib.Core.Bool.{Bool, cond, _&&_}
+use Prim.Native.Nat.{ℕ, _+_, _-_, _%_}
+use lib.Dec.{eqb, ltb, leb}
+use Rattle.window.specs.Memory.{position}
+use Rattle.model.specs.Table.{Table, at, putAt, exchangeAt, removeAt, sequenceAt, covers}
+use Rattle.laws_acknowledge.specs.Advance.{distance, advance}
+
+-- ---- the table after insert, exchange and remove, as the plain table has them
+
+abbrev pub inserted : ℕ → Table → ℕ → ℕ → Table
+inserted size t s v = at t (position size s) (putAt s v (t (position size s)))
+
+abbrev pub exchanged : ℕ → Table → ℕ → ℕ → Table
+exchanged size t s v = at t (position size s) (exchangeAt s v (t (position size s)))
+
+abbrev pub removed : ℕ → Table → ℕ → Table
+removed size t s = at t (position size s) (removeAt s (t (position size s)))
+
+-- ---- the point after each call; t is the table after it, `base` and `point` are those before it
+
+-- insert: `new` says that nothing stood at the position. Only a new value at the point itself moves the point, and not where the point
+-- is base plus window_size: then the advance from the distance after it.
+abbrev pub afterInsert : ℕ → Table → (base point s : ℕ) → Bool → ℕ
+afterInsert size t base point s new =
+    cond (new && (eqb s point && ltb (distance base point) size)) (sequenceAt base (advance size t base (distance base point + 1))) point
+
+-- remove: a sequence that was found before the point is the point after it
+abbrev pub afterRemove : (base point s : ℕ) → Bool → ℕ
+afterRemove base point s found = cond (found && ltb (distance base s) (distance base point)) s point
+
+-- the least distance from a base at position b whose position is in a range: 0 if b is in it, else how far its start is
+abbrev pub leastCovered : (cap start count b : ℕ) → ℕ
+leastCovered cap start count b = cond (covers cap start count b) 0 ((start + cap - b) % cap)
+
+-- remove_range: the sequence at that distance, if it is before the point
+abbrev pub afterRange : (cap start count base point : ℕ) → ℕ
+afterRange cap start count base point =
+    let d = leastCovered cap start count (base % cap) in
+    cond (ltb d (distance base point)) (sequenceAt base d) point
+
+-- The base set to s, which changes no value. If s is in base .. point, all from s up to the point are live, and the point stays; but if
+-- it was base plus window_size, the advance goes on from there. Else the advance from s. (A point further than window_size from its
+-- base is no table's; testing for it keeps `size - distance base s` from falling below 0 whatever the header holds.)
+-- Taking the front is a removal of the base, and then the base set to the next sequence.
+abbrev pub afterSetBase : ℕ → Table → (base point s : ℕ) → ℕ
+afterSetBase size t base point s =
+    cond (leb (distance base s) (distance base point) && leb (distance base point) size)
+    (cond (ltb (distance base point) size) point (sequenceAt s (advance size t s (size - distance base s))))
+    (sequenceAt s (advance size t s 0))
