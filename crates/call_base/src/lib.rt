@@ -12,7 +12,7 @@ use window::refusals::Refusal;
 ghost use mathlib.Core.Path.{_≡_};
 ghost use Prim.Native.Nat.{_+_, _/_, _<_};
 ghost use Rattle.window.specs.Memory.{blockWords, rowIn};
-ghost use Rattle.model.specs.Table.{rangeCount};
+ghost use Rattle.model.specs.Table.{rangeCount, distance as distanceOf};
 ghost use Rattle.page_base.specs.Contracts.{readAnswer};
 ghost use Rattle.call_base.specs.Answers.{answerOf, replied, refusedBy};
 ghost use Rattle.call_base.specs.Contracts.{Reachable};

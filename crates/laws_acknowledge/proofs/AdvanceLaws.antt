@@ -10,9 +10,9 @@ use Rattle.words.specs.First.{firstFrom}
 use Rattle.words.proofs.FirstLaws.{first-is, first-eq, first-same}
 use Rattle.window.specs.Memory.{capacity, position}
 use Rattle.window.proofs.MemoryLaws.{position-lt}
-use Rattle.model.specs.Table.{Table, fresh, finds, sequenceAt}
+use Rattle.model.specs.Table.{Table, fresh, finds, sequenceAt, distance}
 use Rattle.model.specs.Point.{isLive, reach, pointOf}
-use Rattle.laws_acknowledge.specs.Advance.{distance, advance}
+use Rattle.laws_acknowledge.specs.Advance.{advance}
 use Rattle.laws_acknowledge.proofs.DistanceLaws.{sequence-zero, sequence-lt, distance-at}
 
 -- r is the first distance from d on, and below window_size, whose sequence is not live; window_size if there is none

@@ -7,9 +7,9 @@ use native.Mathlib.Omega.{arith}
 use lib.Dec.{ltb, leb}
 use borrow.Author.Tests.{ltb-true, ltb-false, leb-true, le-leb}
 use Rattle.words.proofs.CaseLaws.{bool}
-use Rattle.model.specs.Table.{Table, sequenceAt}
+use Rattle.model.specs.Table.{Table, sequenceAt, distance}
 use Rattle.model.specs.Point.{isLive, reach, pointOf}
-use Rattle.laws_acknowledge.specs.Advance.{distance, advance}
+use Rattle.laws_acknowledge.specs.Advance.{advance}
 use Rattle.laws_acknowledge.specs.Increments.{removed, afterSetBase}
 use Rattle.laws_acknowledge.proofs.DistanceLaws.{sequence-zero, sequence-lt, sequence-on, sequence-same, at-distance-own}
 use Rattle.laws_acknowledge.proofs.AdvanceLaws.{reach-is, advance-over, advance-same, point-advance, point-eq, point-missed, point-distance, point-same-from}

@@ -8,8 +8,7 @@ use lib.Pow.{mod-mod-pow}
 use lib.Bits.{bitAnd, and-mask}
 use Rattle.window.specs.Memory.{capacity, position}
 use Rattle.window.proofs.MemoryLaws.{capacity-power}
-use Rattle.model.specs.Table.{sequenceAt, rangeCount}
-use Rattle.laws_acknowledge.specs.Advance.{distance}
+use Rattle.model.specs.Table.{sequenceAt, distance}
 
 -- ---- distances
 
@@ -24,17 +23,24 @@ pub sequence-on : (base d e : ℕ) → sequenceAt (sequenceAt base d) e ≡ sequ
 sequence-on base d e = omega arith
 
 pub distance-lt : (base s : ℕ) → distance base s < 2 ^ 31
-distance-lt base s = mod-lt (s + 2 ^ 31 - base) {m = 2 ^ 31} (omega arith)
+unfolding distance
+distance-lt base s = mod-lt ((s + 2 ^ 32 - base) % 2 ^ 32) {m = 2 ^ 31} (omega arith)
+
+-- 2 ^ 31 divides 2 ^ 32
+distance-lowest : (base s : ℕ) → distance base s ≡ (s + 2 ^ 32 - base) % 2 ^ 31
+unfolding distance
+distance-lowest base s = mod-mod-pow (s + 2 ^ 32 - base) 1 31
 
 pub distance-at : (base d : ℕ) → base < 2 ^ 31 → d < 2 ^ 31 → distance base (sequenceAt base d) ≡ d
+unfolding distance
 distance-at base d l h = omega arith
 
 -- the sequence at a sequence's distance is that sequence but for its top bit
 pub at-distance : (base s : ℕ) → base < 2 ^ 31 → sequenceAt base (distance base s) ≡ s % 2 ^ 31
-at-distance base s l = omega arith
+at-distance base s l = rw (distance-lowest base s) (omega arith)
 
 pub at-distance-own : (base s : ℕ) → base < 2 ^ 31 → s < 2 ^ 31 → sequenceAt base (distance base s) ≡ s
-at-distance-own base s l h = omega arith
+at-distance-own base s l h = at-distance base s l ∙ mod-eq-of-lt h
 
 -- no two distances have one sequence
 pub sequence-same : (base d e : ℕ) → d < 2 ^ 31 → e < 2 ^ 31 → sequenceAt base d ≡ sequenceAt base e → d ≡ e
@@ -67,10 +73,6 @@ pub sequence-code : (base d : ℕ) → bitAnd (base + d) (2 ^ 31 - 1) ≡ sequen
 sequence-code base d = and-mask (base + d) 31
 
 -- `wrapping_sub(s, base) & (2^31 - 1)`
-pub distance-code : (base s : ℕ) → base < 2 ^ 31 → s < 2 ^ 32 → bitAnd ((s + 2 ^ 32 - base) % 2 ^ 32) (2 ^ 31 - 1) ≡ distance base s
-distance-code base s l h = and-mask ((s + 2 ^ 32 - base) % 2 ^ 32) 31 ∙ omega arith
-
--- a range's count less one
-pub distance-count : (base s : ℕ) → base < 2 ^ 31 → s < 2 ^ 32 → distance base s + 1 ≡ rangeCount base s
-unfolding rangeCount
-distance-count base s l h = omega arith
+pub distance-code : (base s : ℕ) → bitAnd ((s + 2 ^ 32 - base) % 2 ^ 32) (2 ^ 31 - 1) ≡ distance base s
+unfolding distance
+distance-code base s = and-mask ((s + 2 ^ 32 - base) % 2 ^ 32) 31

@@ -7,7 +7,7 @@ use Prim.Native.Nat.{ℕ, _+_, _-_, _%_}
 use lib.Dec.{ltb}
 use Rattle.words.specs.First.{firstFrom}
 use Rattle.window.specs.Memory.{capacity}
-use Rattle.model.specs.Table.{Table, pairOf, fresh, sequenceAt}
+use Rattle.model.specs.Table.{Table, pairOf, fresh, sequenceAt, distance}
 use Rattle.model.specs.Point.{isLive, reach, pointOf}
 use Rattle.laws_acknowledge.specs.Advance.{advance}
 use Rattle.laws_acknowledge.specs.Increments.{inserted, removed, afterInsert, afterRemove, afterRange, afterSetBase}
@@ -56,15 +56,17 @@ inserts :
     × (let t = with 64 (0 ∷ 1 ∷ 3 ∷ []) in afterInsert 64 (inserted 64 t 4 7) 0 2 4 true ≡ 2)
     × (let t = with 64 (64 ∷ []) in afterInsert 64 (inserted 64 t 0 7) 0 0 0 false ≡ 0)
     × (afterInsert 65 (row 2147483600 66) 2147483600 17 17 true ≡ 17)
-unfolding advance firstFrom capacity
+unfolding advance firstFrom capacity distance
 inserts = (refl, refl, refl, refl)
 
 -- before the point, after it, absent
 removals : (afterRemove 0 4 1 true ≡ 1) × (afterRemove 0 4 9 true ≡ 4) × (afterRemove 0 4 1 false ≡ 4)
+unfolding distance
 removals = (refl, refl, refl)
 
 -- two positions each: round to the base's own, before the point, from the point on, and from a base that wraps
 ranges : (afterRange 128 127 2 0 5 ≡ 0) × (afterRange 128 3 2 0 5 ≡ 3) × (afterRange 128 5 2 0 5 ≡ 5) × (afterRange 128 1 2 2147483647 5 ≡ 1)
+unfolding distance
 ranges = (refl, refl, refl, refl)
 
 -- ---- the base set
@@ -73,22 +75,22 @@ ranges = (refl, refl, refl, refl)
 set-on :
     (let t = with 64 (0 ∷ 1 ∷ 3 ∷ 4 ∷ []) in
     (afterSetBase 64 t 0 2 1 ≡ 2) × (afterSetBase 64 t 0 2 2 ≡ 2) × (afterSetBase 64 t 0 2 3 ≡ 5) × (afterSetBase 64 t 0 2 6 ≡ 6))
-unfolding advance firstFrom capacity
+unfolding advance firstFrom capacity distance
 set-on = (refl, refl, refl, refl)
 
 -- all 65 live and 5 more: the point goes on past the old limit; past all of them it is the new base
 set-past-the-limit : (afterSetBase 65 (row 2147483600 70) 2147483600 17 2147483610 ≡ 22) × (afterSetBase 65 (row 2147483600 70) 2147483600 17 23 ≡ 23)
-unfolding advance firstFrom capacity
+unfolding advance firstFrom capacity distance
 set-past-the-limit = (refl, refl)
 
 -- backwards: by 10 over live sequences, where window_size ends before the old point; by 1 to a sequence that is not live
 set-back : (afterSetBase 65 (row 2147483590 70) 2147483600 12 2147483590 ≡ 7) × (afterSetBase 65 (row 2147483600 10) 2147483600 2147483610 2147483599 ≡ 2147483599)
-unfolding advance firstFrom capacity
+unfolding advance firstFrom capacity distance
 set-back = (refl, refl)
 
 -- a point further than window_size from its base, as no table has: the advance from the new base
 set-from-no-point : (let t = with 64 (0 ∷ 1 ∷ 3 ∷ 4 ∷ []) in afterSetBase 64 t 0 100 80 ≡ 80) × (let t = with 64 (0 ∷ 1 ∷ 3 ∷ 4 ∷ []) in afterSetBase 64 t 0 100 3 ≡ 5)
-unfolding advance firstFrom capacity
+unfolding advance firstFrom capacity distance
 set-from-no-point = (refl, refl)
 
 -- the front taken: where all 65 were live, with and without the sequence past them; with window_size 1
@@ -96,5 +98,5 @@ front :
     (let t = row 2147483600 66 in afterSetBase 65 (removed 65 t 2147483600) 2147483600 17 2147483601 ≡ 18)
     × (let t = row 2147483600 65 in afterSetBase 65 (removed 65 t 2147483600) 2147483600 17 2147483601 ≡ 17)
     × (let t = with 1 (0 ∷ 1 ∷ []) in afterSetBase 1 (removed 1 t 0) 0 1 1 ≡ 2)
-unfolding advance firstFrom capacity
+unfolding advance firstFrom capacity distance
 front = (refl, refl, refl)

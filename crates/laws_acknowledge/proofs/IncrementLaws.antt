@@ -9,9 +9,9 @@ use borrow.Author.Tests.{eqb-true, eqb-false, ltb-true, ltb-false}
 use Rattle.words.proofs.CaseLaws.{bool}
 use Rattle.window.specs.Memory.{position}
 use Rattle.model.specs.Calls.{insert, exchange, remove}
-use Rattle.model.specs.Table.{Table, holds, finds, sequenceAt, TableState, tableDoes}
+use Rattle.model.specs.Table.{Table, holds, finds, sequenceAt, TableState, tableDoes, distance}
 use Rattle.model.specs.Point.{isLive, reach, pointOf}
-use Rattle.laws_acknowledge.specs.Advance.{distance, advance}
+use Rattle.laws_acknowledge.specs.Advance.{advance}
 use Rattle.laws_acknowledge.specs.Increments.{inserted, exchanged, removed, afterInsert, afterRemove}
 use Rattle.laws_acknowledge.proofs.DistanceLaws.{sequence-same, distance-at, at-distance, position-wraps}
 use Rattle.laws_acknowledge.proofs.AdvanceLaws.{advance-over, reach-is, point-advance, point-eq, point-missed, point-distance, point-same}

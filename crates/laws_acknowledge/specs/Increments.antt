@@ -4,8 +4,8 @@ use mathlib.Core.Bool.{Bool, cond, _&&_}
 use Prim.Native.Nat.{ℕ, _+_, _-_, _%_}
 use lib.Dec.{eqb, ltb, leb}
 use Rattle.window.specs.Memory.{position}
-use Rattle.model.specs.Table.{Table, at, putAt, exchangeAt, removeAt, sequenceAt, covers}
-use Rattle.laws_acknowledge.specs.Advance.{distance, advance}
+use Rattle.model.specs.Table.{Table, at, putAt, exchangeAt, removeAt, sequenceAt, covers, distance}
+use Rattle.laws_acknowledge.specs.Advance.{advance}
 
 -- ---- the table after insert, exchange and remove, as the plain table has them
 

@@ -11,7 +11,7 @@ use Rattle.words.specs.Word.{bitAt, withBit, countBelow, span, wordBelow, lowes
 use Rattle.window.specs.Memory.{capacity}
 use Rattle.window.specs.Refusals.{limits}
 use Rattle.window.specs.New.{fresh}
-use Rattle.model.specs.Table.{rangeCount, sum, heldInRange, searchFrom, strangerIn}
+use Rattle.model.specs.Table.{rangeCount, distance, sum, heldInRange, searchFrom, strangerIn}
 use Rattle.model.specs.Window.{cellOf, iterStep, pairsFrom}
 use Rattle.model.specs.Pages.{freeCell, promoted, nthSet, packed, insertPage, drainPage}
 use Rattle.model.specs.Steps.{noteNonempty, splitBlock, releasePage, nextRetired, releaseUnits, revive, removeSlots, retireInBlock, retireBlock, retireBlocks, retirePages, retireStretch, retireRange, retireAll, releasePages, insertStep, exchangeStep, removeStep, rangeStep, clearStep, clearBoundedStep, releaseStep, windowDoes}
@@ -24,7 +24,7 @@ use Rattle.line_program.specs.Program.{Printed, atStart, windowIn, withW
 
 -- names every definition that computes
 unfoldable everything : ℕ
-unfolding firstFrom firstRound bitAt withBit countBelow span wordBelow lowest capacity limits fresh rangeCount sum heldInRange searchFrom strangerIn cellOf iterStep pairsFrom freeCell promoted nthSet packed insertPage drainPage noteNonempty splitBlock releasePage nextRetired releaseUnits revive removeSlots retireInBlock retireBlock retireBlocks retirePages retireStretch retireRange retireAll releasePages insertStep exchangeStep removeStep rangeStep clearStep clearBoundedStep releaseStep windowDoes allDigits numberFrom fieldOf parts ended waiting numbers among fieldCount lineOf digitsUpTo paired tabbed answerBytes countBytes rangeCallOf callOf commandOf windowIn withWindow newLine callLine listLine lineDoes linesDo linesOf windowlines
+unfolding firstFrom firstRound bitAt withBit countBelow span wordBelow lowest capacity limits fresh rangeCount distance sum heldInRange searchFrom strangerIn cellOf iterStep pairsFrom freeCell promoted nthSet packed insertPage drainPage noteNonempty splitBlock releasePage nextRetired releaseUnits revive removeSlots retireInBlock retireBlock retireBlocks retirePages retireStretch retireRange retireAll releasePages insertStep exchangeStep removeStep rangeStep clearStep clearBoundedStep releaseStep windowDoes allDigits numberFrom fieldOf parts ended waiting numbers among fieldCount lineOf digitsUpTo paired tabbed answerBytes countBytes rangeCallOf callOf commandOf windowIn withWindow newLine callLine listLine lineDoes linesDo linesOf windowlines
 everything = 0
 
 -- ---- text

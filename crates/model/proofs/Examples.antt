@@ -12,7 +12,7 @@ use Rattle.window.specs.Memory.{Memory, capacity}
 use Rattle.window.specs.Refusals.{limits, longEnough}
 use Rattle.window.specs.New.{fresh as freshHeader, made, refused as notMade, newResult, cleared, shortMemory, newOf}
 use Rattle.model.specs.Calls.{get, successor-after, first-from, iter, stranger, check, Call, insert, exchange, remove, ask, remove-range, clear, clear-bounded, release-retired, Answer, done, new, absent, found, pair, released, refused}
-use Rattle.model.specs.Table.{pairOf, fresh, at, rangeCount, sum, heldInRange, searchFrom, strangerIn, known, argumentRefusal, tableStep, tableDoes}
+use Rattle.model.specs.Table.{pairOf, fresh, at, rangeCount, distance, sum, heldInRange, searchFrom, strangerIn, known, argumentRefusal, tableStep, tableDoes}
 use Rattle.model.specs.Positions.{Positions, positions, plain, drain, inPage, sweep, sweepRange, release, step, does}
 use Rattle.model.specs.Window.{Window, decode, freshWindow, cellOf, iterStep}
 use Rattle.model.specs.Pages.{freeCell, promoted, nthSet, packed, insertPage, drainPage}
@@ -44,7 +44,7 @@ listing : lines (afterNew 64 2 1)
     (insert 5 50 true ∷ insert 69 51 true ∷ insert 6 60 true ∷ insert 7 70 true ∷ remove-range 6 7 true ∷ clear true ∷ ask (successor-after 5) ∷ [])
     ≡ line new 1 0 0 0 [] ∷ line (refused 4) 1 0 0 0 [] ∷ line new 2 0 0 0 [] ∷ line new 3 0 1 0 []
     ∷ line (found 2) 1 0 1 1 (60 ∷ 70 ∷ []) ∷ line done 0 0 1 1 (50 ∷ []) ∷ line absent 0 0 1 1 [] ∷ []
-unfolding firstFrom firstRound bitAt withBit countBelow span wordBelow lowest capacity freshHeader freshWindow rangeCount sum heldInRange searchFrom cellOf freeCell promoted nthSet packed insertPage drainPage noteNonempty splitBlock releasePage nextRetired releaseUnits revive removeSlots retireStretch retireRange retireAll insertStep rangeStep clearStep windowDoes
+unfolding firstFrom firstRound bitAt withBit countBelow span wordBelow lowest capacity freshHeader freshWindow rangeCount distance sum heldInRange searchFrom cellOf freeCell promoted nthSet packed insertPage drainPage noteNonempty splitBlock releasePage nextRetired releaseUnits revive removeSlots retireStretch retireRange retireAll insertStep rangeStep clearStep windowDoes
 listing = refl
 
 -- "At window_size 64, range 2147483647..0 is positions 63 and 0": over positions, and in the plain table
@@ -53,7 +53,7 @@ twoPairs = positions (at (at fresh 0 (some (pairOf 0 10))) 63 (some (pairOf 63 1
 
 range-over-half : (step 64 twoPairs (remove-range 2147483647 0 true) .returned ≡ 13 ∷ 10 ∷ [])
     × (tableStep 64 (plain twoPairs) (remove-range 2147483647 0 true) .answer ≡ some (found 2))
-unfolding twoPairs does tableDoes capacity firstFrom firstRound rangeCount sum heldInRange drain inPage sweep sweepRange release
+unfolding twoPairs does tableDoes capacity firstFrom firstRound rangeCount distance sum heldInRange drain inPage sweep sweepRange release
 range-over-half = (refl, refl)
 
 -- a memory that is long enough for window_size
@@ -108,7 +108,7 @@ edge-cases : (m : Memory)
     -- Straight after that clear, insert 100 drops nothing; insert 250 drops the values of 252..255
     × (lines (after (afterNew 512 8 0) (insertsFrom 0 512 ++ clear true ∷ [])) (insert 100 1 true ∷ insert 250 2 true ∷ [])
     ≡ line new 1 260 8 0 [] ∷ line new 2 256 8 0 (from 252 4) ∷ [])
-unfolding limits firstFrom firstRound bitAt withBit countBelow span wordBelow lowest capacity freshHeader freshWindow rangeCount sum heldInRange searchFrom cellOf freeCell promoted nthSet packed insertPage drainPage noteNonempty splitBlock releasePage nextRetired releaseUnits revive removeSlots retireInBlock retireBlock retireBlocks retirePages retireStretch retireRange retireAll releasePages insertStep rangeStep clearStep clearBoundedStep releaseStep windowDoes
+unfolding limits firstFrom firstRound bitAt withBit countBelow span wordBelow lowest capacity freshHeader freshWindow rangeCount distance sum heldInRange searchFrom cellOf freeCell promoted nthSet packed insertPage drainPage noteNonempty splitBlock releasePage nextRetired releaseUnits revive removeSlots retireInBlock retireBlock retireBlocks retirePages retireStretch retireRange retireAll releasePages insertStep rangeStep clearStep clearBoundedStep releaseStep windowDoes
 edge-cases m = (refused-by 0 m 0 8 2 refl, taken m 65536 8 2 refl, refused-by 0 m 65537 8 2 refl, taken m 64 63 0 refl, refused-by 1 m 64 64 0 refl, taken m 64 8 8 refl, refused-by 2 m 64 8 9 refl, refl, refl, refl, refl, refl, refl, refl, refl)
 
 -- ---- the traps
@@ -125,7 +125,7 @@ traps :
     -- "taking a sparse page's lowest position for its lowest cell": 9 came first and is in cell 0; its cell serves again
     × (lines (afterNew 64 8 2) (insert 9 90 true ∷ insert 5 50 true ∷ ask (iter 0) ∷ remove 9 ∷ insert 7 70 true ∷ ask (iter 0) ∷ [])
     ≡ line new 1 0 0 0 [] ∷ line new 2 0 0 0 [] ∷ line (pair 9 90 1) 2 0 0 0 [] ∷ line (found 90) 1 0 0 0 [] ∷ line new 2 0 0 0 [] ∷ line (pair 7 70 1) 2 0 0 0 [] ∷ [])
-unfolding firstFrom firstRound bitAt withBit countBelow span wordBelow lowest capacity freshHeader freshWindow rangeCount sum heldInRange searchFrom cellOf freeCell promoted nthSet packed insertPage drainPage noteNonempty splitBlock releasePage nextRetired releaseUnits revive removeSlots retireInBlock retireBlock retireBlocks retirePages retireStretch retireRange retireAll releasePages insertStep rangeStep clearStep clearBoundedStep releaseStep windowDoes iterStep exchangeStep removeStep
+unfolding firstFrom firstRound bitAt withBit countBelow span wordBelow lowest capacity freshHeader freshWindow rangeCount distance sum heldInRange searchFrom cellOf freeCell promoted nthSet packed insertPage drainPage noteNonempty splitBlock releasePage nextRetired releaseUnits revive removeSlots retireInBlock retireBlock retireBlocks retirePages retireStretch retireRange retireAll releasePages insertStep rangeStep clearStep clearBoundedStep releaseStep windowDoes iterStep exchangeStep removeStep
 traps = (refl, refl, refl, refl, refl)
 
 -- ---- stranger: none in an empty window, none in its own range, an alias, a set top bit
@@ -134,7 +134,7 @@ strangers :
     lines (afterNew 64 8 2) (ask (stranger 5 5) ∷ insert 5 50 true ∷ ask (stranger 5 5) ∷ ask (stranger 4 6) ∷ ask (stranger 69 69) ∷ remove 5 ∷ insert 2147483653 51 true ∷ ask (stranger 5 5) ∷ ask (stranger 6 9) ∷ [])
     ≡ line absent 0 0 0 0 [] ∷ line new 1 0 0 0 [] ∷ line absent 1 0 0 0 [] ∷ line absent 1 0 0 0 [] ∷ line (pair 5 50 0) 1 0 0 0 []
     ∷ line (found 50) 0 0 0 0 [] ∷ line new 1 0 0 0 [] ∷ line (pair 2147483653 51 0) 1 0 0 0 [] ∷ line absent 1 0 0 0 [] ∷ []
-unfolding firstFrom firstRound bitAt withBit countBelow span wordBelow lowest capacity freshHeader freshWindow rangeCount sum heldInRange searchFrom cellOf freeCell promoted nthSet packed insertPage drainPage noteNonempty splitBlock releasePage nextRetired releaseUnits revive removeSlots retireInBlock retireBlock retireBlocks retirePages retireStretch retireRange retireAll releasePages insertStep rangeStep clearStep clearBoundedStep releaseStep windowDoes removeStep strangerIn
+unfolding firstFrom firstRound bitAt withBit countBelow span wordBelow lowest capacity freshHeader freshWindow rangeCount distance sum heldInRange searchFrom cellOf freeCell promoted nthSet packed insertPage drainPage noteNonempty splitBlock releasePage nextRetired releaseUnits revive removeSlots retireInBlock retireBlock retireBlocks retirePages retireStretch retireRange retireAll releasePages insertStep rangeStep clearStep clearBoundedStep releaseStep windowDoes removeStep strangerIn
 strangers = refl
 
 -- ---- the order of the refusals for arguments: 6, then 5 or 8
@@ -149,5 +149,5 @@ order :
     × (argumentRefusal (known 64) (ask (get 5)) ≡ 0) × (argumentRefusal (known 64) (ask (successor-after 5)) ≡ 0) × (argumentRefusal (known 64) (ask (first-from 5)) ≡ 0)
     × (argumentRefusal (known 64) (ask (iter 64)) ≡ 0) × (argumentRefusal (known 64) (ask check) ≡ 0)
     × (argumentRefusal (known 64) (ask (stranger 5 4)) ≡ 5) × (argumentRefusal (known 64) (ask (stranger 0 63)) ≡ 0)
-unfolding rangeCount
+unfolding rangeCount distance
 order = (refl, refl, refl, refl, refl, refl, refl, refl, refl, refl, refl, refl, refl, refl, refl, refl, refl, refl, refl, refl, refl, refl)

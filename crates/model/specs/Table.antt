@@ -72,11 +72,15 @@ removeAt s (some e) = cond (eqb (e .sequence) s) none (some e)
 abbrev pub sequenceAt : ℕ → ℕ → ℕ
 sequenceAt base d = (base + d) % 2 ^ 31
 
+-- how far a sequence is from a base: a range's count less 1
+unfoldable pub distance : ℕ → ℕ → ℕ
+distance base s = (s + 2 ^ 32 - base) % 2 ^ 32 % 2 ^ 31
+
 -- ---- ranges of positions
 
 -- "count = ((last − first) modulo 2^32, lowest 31 bits) + 1"
 unfoldable pub rangeCount : ℕ → ℕ → ℕ
-rangeCount first last = (last + 2 ^ 32 - first) % 2 ^ 32 % 2 ^ 31 + 1
+rangeCount first last = distance first last + 1
 
 -- q is one of a, a + 1, .. below e
 abbrev pub within : ℕ → ℕ → ℕ → Bool
