@@ -2,9 +2,15 @@
 // sequences are asked for: 64 × row + j at position j.
 use page_base::PageWords;
 use window::memory::PAGE_SLOTS;
+ghost use mathlib.Core.Path.{_≡_};
+ghost use Prim.Native.Nat.{_<_};
+ghost use lib.ListN.{length};
+ghost use Rattle.acknowledge.specs.Contracts.{DenseRun, Masks, Runs};
 
 // Of a dense page, whose values are at their own positions.
 fn dense_run(sequences: &[u32], filled: u64, slot: usize, row: u32) -> usize
+    requires { ⌜ (length (now sequences) ≡ 64) × (slot < 64) ⌝ }
+    ensures { λ r. ⌜ DenseRun (now (sequences .entry)) filled slot row r ⌝ }
 {
     let mut c = slot;
     while c < PAGE_SLOTS {
@@ -21,6 +27,8 @@ fn dense_run(sequences: &[u32], filled: u64, slot: usize, row: u32) -> usize
 
 // Of a sparse page: bit j, the sequence asked for at position j is in one of the first n cells.
 fn sparse_mask(sequences: &[u32], filled: u64, n: usize, row: u32) -> u64
+    requires { ⌜ (length (now sequences) ≡ 64) × (n < 64) ⌝ }
+    ensures { λ r. ⌜ Masks (now (sequences .entry)) filled row n r ⌝ }
 {
     let mut mask: u64 = 0;
     let mut c: usize = 0;
@@ -38,6 +46,8 @@ fn sparse_mask(sequences: &[u32], filled: u64, n: usize, row: u32) -> u64
 
 // The first position from `slot` on at which the sequence asked for does not stand; 64 if it stands at all of them.
 pub fn page_run(sequences: &[u32], w: PageWords, n: usize, slot: usize, row: u32) -> usize
+    requires { ⌜ (length (now sequences) ≡ 64) × (n < 64) × (slot < 64) ⌝ }
+    ensures { λ r. ⌜ Runs n w (now (sequences .entry)) slot row r ⌝ }
 {
     let kind = w.kind;
     let occupied = w.occupied;

@@ -1,0 +1,2 @@
+-- The live sequences of one page (RunLaws).
+pub mod RunLaws
