@@ -10,9 +10,14 @@ use run::page_run;
 use window::AdaptiveReceiverPacketWindow;
 use window::memory::PAGE_SLOTS;
 use window::memory::position;
+ghost use mathlib.Core.Path.{_≡_};
+ghost use Prim.Native.Nat.{_≤_};
+ghost use Rattle.model.specs.Table.{sequenceAt};
+ghost use Rattle.acknowledge.specs.Contracts.{ListsLent, LiveRun, Advances, PointFrom};
 
 // The sequence at distance `d` from the base: sums are modulo 2^31.
 pub fn sequence_at(base: u32, d: u32) -> u32
+    ensures { λ r. ⌜ r ≡ sequenceAt base d ⌝ }
 {
     std::num::wrapping_add_u32(base, d) % 0x8000_0000
 }
@@ -25,6 +30,8 @@ fn live_run(
     blocks: &[u64],
     sequence: u32,
 ) -> usize
+    requires { ⌜ ListsLent w (now sequences) (now pages) (now blocks) ⌝ }
+    ensures { λ r. ⌜ LiveRun w (now (sequences .entry)) (now (pages .entry)) (now (blocks .entry)) sequence r ⌝ }
 {
     let page = position(w.window_size, sequence) / PAGE_SLOTS;
     let slot = (sequence % 64) as usize;
@@ -45,6 +52,8 @@ pub fn advance(
     base: u32,
     from: u32,
 ) -> u32
+    requires { ⌜ ListsLent w (now sequences) (now pages) (now blocks) × (from ≤ w .«window_size») ⌝ }
+    ensures { λ r. ⌜ Advances w (now (sequences .entry)) (now (pages .entry)) (now (blocks .entry)) base from r ⌝ }
 {
     let size = w.window_size;
     let mut d = from;
@@ -72,6 +81,8 @@ pub fn point_from(
     base: u32,
     from: u32,
 ) -> u32
+    requires { ⌜ ListsLent w (now sequences) (now pages) (now blocks) × (from ≤ w .«window_size») ⌝ }
+    ensures { λ r. ⌜ PointFrom w (now (sequences .entry)) (now (pages .entry)) (now (blocks .entry)) base from r ⌝ }
 {
     sequence_at(base, advance(w, sequences, pages, blocks, base, from))
 }
