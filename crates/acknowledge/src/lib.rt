@@ -11,9 +11,13 @@ use window::AdaptiveReceiverPacketWindow;
 use window::memory::PAGE_SLOTS;
 use window::memory::position;
 ghost use mathlib.Core.Path.{_≡_};
+ghost use mathlib.Core.Bool.{true};
 ghost use Prim.Native.Nat.{_≤_};
+ghost use Rattle.window.specs.Memory.{capacity, position as positionOf};
 ghost use Rattle.model.specs.Table.{sequenceAt};
-ghost use Rattle.acknowledge.specs.Contracts.{ListsLent, LiveRun, Advances, PointFrom};
+ghost use Rattle.model.specs.Steps.{setPoint};
+ghost use Rattle.laws_acknowledge.specs.Increments.{afterRemove, leastCovered, afterRange};
+ghost use Rattle.acknowledge.specs.Contracts.{ListsLent, LiveRun, Advances, PointFrom, Inserts, MovesPoint, MovesBase, DecidesCurrent};
 
 // The sequence at distance `d` from the base: sums are modulo 2^31.
 pub fn sequence_at(base: u32, d: u32) -> u32
@@ -89,6 +93,7 @@ pub fn point_from(
 
 // The header with another point.
 pub fn with_point(w: AdaptiveReceiverPacketWindow, point: u32) -> AdaptiveReceiverPacketWindow
+    ensures { λ r. ⌜ r ≡ setPoint w point ⌝ }
 {
     let mut v = w;
     v.point = point;
@@ -103,6 +108,8 @@ pub fn after_insert(
     blocks: &[u64],
     sequence: u32,
 ) -> AdaptiveReceiverPacketWindow
+    requires { ⌜ ListsLent w (now sequences) (now pages) (now blocks) ⌝ }
+    ensures { λ r. ⌜ Inserts w (now (sequences .entry)) (now (pages .entry)) (now (blocks .entry)) sequence r ⌝ }
 {
     let reach = distance(w.base, w.point);
     if sequence != w.point {
@@ -111,11 +118,15 @@ pub fn after_insert(
     if w.window_size <= reach {
         return w;
     }
-    with_point(w, point_from(w, sequences, pages, blocks, w.base, reach + 1))
+    with_point(
+        w,
+        point_from(w, sequences, pages, blocks, w.base, reach + 1),
+    )
 }
 
 // After a remove that found its sequence: before the point, it becomes the point.
 pub fn after_remove(w: AdaptiveReceiverPacketWindow, sequence: u32) -> AdaptiveReceiverPacketWindow
+    ensures { λ r. ⌜ r ≡ setPoint w (afterRemove (w .base) (w .point) sequence true) ⌝ }
 {
     if distance(w.base, sequence) < distance(w.base, w.point) {
         return with_point(w, sequence);
@@ -125,6 +136,8 @@ pub fn after_remove(w: AdaptiveReceiverPacketWindow, sequence: u32) -> AdaptiveR
 
 // How far from the base the first position is that a range of `count` positions from first's covers.
 fn first_covered(w: AdaptiveReceiverPacketWindow, first: u32, count: usize) -> u32
+    requires { ⌜ (w .«window_size» ≤ 65536) × (count ≤ capacity (w .«window_size»)) ⌝ }
+    ensures { λ r. ⌜ r ≡ leastCovered (capacity (w .«window_size»)) (positionOf (w .«window_size») first) count (positionOf (w .«window_size») (w .base)) ⌝ }
 {
     let past = position(w.window_size, std::num::wrapping_sub_u32(w.base, first));
     if past < count {
@@ -134,7 +147,13 @@ fn first_covered(w: AdaptiveReceiverPacketWindow, first: u32, count: usize) -> u
 }
 
 // After a range was removed: where it covers a position before the point, the first of these becomes the point.
-pub fn after_range(w: AdaptiveReceiverPacketWindow, first: u32, count: usize) -> AdaptiveReceiverPacketWindow
+pub fn after_range(
+    w: AdaptiveReceiverPacketWindow,
+    first: u32,
+    count: usize,
+) -> AdaptiveReceiverPacketWindow
+    requires { ⌜ (w .«window_size» ≤ 65536) × (count ≤ capacity (w .«window_size»)) ⌝ }
+    ensures { λ r. ⌜ r ≡ setPoint w (afterRange (capacity (w .«window_size»)) (positionOf (w .«window_size») first) count (w .base) (w .point)) ⌝ }
 {
     let d = first_covered(w, first, count);
     if d < distance(w.base, w.point) {
@@ -145,6 +164,7 @@ pub fn after_range(w: AdaptiveReceiverPacketWindow, first: u32, count: usize) ->
 
 // After everything was removed.
 pub fn after_clear(w: AdaptiveReceiverPacketWindow) -> AdaptiveReceiverPacketWindow
+    ensures { λ r. ⌜ r ≡ setPoint w (w .base) ⌝ }
 {
     with_point(w, w.base)
 }
@@ -157,6 +177,8 @@ fn moved_point(
     blocks: &[u64],
     base: u32,
 ) -> u32
+    requires { ⌜ ListsLent w (now sequences) (now pages) (now blocks) ⌝ }
+    ensures { λ r. ⌜ MovesPoint w (now (sequences .entry)) (now (pages .entry)) (now (blocks .entry)) base r ⌝ }
 {
     let size = w.window_size;
     let reach = distance(w.base, w.point);
@@ -181,6 +203,8 @@ pub fn after_base(
     blocks: &[u64],
     base: u32,
 ) -> AdaptiveReceiverPacketWindow
+    requires { ⌜ ListsLent w (now sequences) (now pages) (now blocks) ⌝ }
+    ensures { λ r. ⌜ MovesBase w (now (sequences .entry)) (now (pages .entry)) (now (blocks .entry)) base r ⌝ }
 {
     let mut v = w;
     v.point = moved_point(w, sequences, pages, blocks, base);
@@ -189,7 +213,14 @@ pub fn after_base(
 }
 
 // Whether the base is below 2^31 and the point is the one worked out afresh.
-pub fn is_current(w: AdaptiveReceiverPacketWindow, sequences: &[u32], pages: &[u64], blocks: &[u64]) -> bool
+pub fn is_current(
+    w: AdaptiveReceiverPacketWindow,
+    sequences: &[u32],
+    pages: &[u64],
+    blocks: &[u64],
+) -> bool
+    requires { ⌜ ListsLent w (now sequences) (now pages) (now blocks) ⌝ }
+    ensures { λ r. ⌜ DecidesCurrent w (now (sequences .entry)) (now (pages .entry)) (now (blocks .entry)) r ⌝ }
 {
     if 0x7fff_ffff < w.base {
         return false;

@@ -59,9 +59,12 @@ loop-again : tie.Need-loop-again Inv-loop μ-loop
 loop-again c =
     let a = c .before .before .before .before .before .before .before .args in
     let i = c .before .before .before .before .before .loop .inv in
-    let j = c .before .before .before .before .before .loop .c in
-    (omega arith, omega arith, row-more (a .sequences .now) (a .filled) (a .row) (a .slot) j (i .2)
-    (omega (arith, c .before .before .before .bit .ensures, c .before .before .if1 .left, bit-lt (a .filled) j), omega (arith, c .if2 .left)))
+    let j = c .before .before .before .before .before .loop .c in (
+      omega arith,
+      omega arith,
+      row-more (a .sequences .now) (a .filled) (a .row) (a .slot) j (i .2)
+          (omega (arith, c .before .before .before .bit .ensures, c .before .before .if1 .left, bit-lt (a .filled) j), omega (arith, c .if2 .left)),
+    )
 
 -- src/run.rt:11:1
 returns-3 : tie.Need-returns-3 Inv-loop μ-loop

@@ -56,13 +56,15 @@ loop-again : tie.Need-loop-again Inv-loop μ-loop
 loop-again c =
     let a = c .before .before .before .before .before .args in
     let i = c .before .before .before .loop .inv in
-    let j = c .before .before .before .loop .c in
-    (search needs, ⊎-elim
-    (λ w. rw (w .4 ∙ w .3 .ensures) (mask-put (a .sequences .now) (a .filled) (a .row) j _ (i .1) (sym (w .1 .ensures) ∙ w .2 .taken, w .0 .taken)))
-    (⊎-elim
-    (λ w. rw (w .3) (mask-skip (a .sequences .now) (a .filled) (a .row) j _ (i .1) (λ r. w .2 .left (w .1 .ensures ∙ r .0))))
-    (λ w. rw (w .1) (mask-skip (a .sequences .now) (a .filled) (a .row) j _ (i .1) (λ r. w .0 .left (r .1)))))
-    (c .if1 .came))
+    let j = c .before .before .before .loop .c in (
+      search needs,
+      ⊎-elim
+          (λ w. rw (w .4 ∙ w .3 .ensures) (mask-put (a .sequences .now) (a .filled) (a .row) j _ (i .1) (sym (w .1 .ensures) ∙ w .2 .taken, w .0 .taken)))
+          (⊎-elim
+          (λ w. rw (w .3) (mask-skip (a .sequences .now) (a .filled) (a .row) j _ (i .1) (λ r. w .2 .left (w .1 .ensures ∙ r .0))))
+          (λ w. rw (w .1) (mask-skip (a .sequences .now) (a .filled) (a .row) j _ (i .1) (λ r. w .0 .left (r .1)))))
+          (c .if1 .came),
+    )
 
 -- src/run.rt:29:1
 returns : tie.Need-returns Inv-loop μ-loop
