@@ -44,7 +44,7 @@ shared-slice-read-if2 c = search needs
 returns-2 : tie.Need-returns-2 Inv-loop μ-loop
 returns-2 c =
     let i = c .before .before .before .before .before .loop .inv in
-    record { from = i .0; top = i .1; held = i .2; missed = λ l r. c .if2 .taken (r .1) }
+    record { from = i .0; top = i .1; held = i .2; missed = λ l r. omega (arith, r .1, c .if2 .taken) }
 
 -- src/run.rt:23:9
 add-c : tie.Need-add-c Inv-loop μ-loop
