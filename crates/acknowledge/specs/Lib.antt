@@ -1,0 +1,2 @@
+-- The acknowledge point: what the functions promise (Contracts).
+pub mod Contracts

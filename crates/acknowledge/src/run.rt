@@ -1,0 +1,62 @@
+// The live sequences of one page, from one of its positions upwards. `sequences` are the 64 cells of the page, and `row` says which
+// sequences are asked for: 64 × row + j at position j.
+use page_base::PageWords;
+use window::memory::PAGE_SLOTS;
+ghost use mathlib.Core.Path.{_≡_};
+ghost use Prim.Native.Nat.{_<_};
+ghost use lib.ListN.{length};
+ghost use Rattle.acknowledge.specs.Contracts.{DenseRun, Masks, Runs};
+
+// Of a dense page, whose values are at their own positions.
+fn dense_run(sequences: &[u32], filled: u64, slot: usize, row: u32) -> usize
+    requires { ⌜ (length (now sequences) ≡ 64) × (slot < 64) ⌝ }
+    ensures { λ r. ⌜ DenseRun (now (sequences .entry)) filled slot row r ⌝ }
+{
+    let mut c = slot;
+    while c < PAGE_SLOTS {
+        if words::bit(filled, c) == 0 {
+            return c;
+        }
+        if sequences[c] / 64 != row {
+            return c;
+        }
+        c += 1;
+    }
+    PAGE_SLOTS
+}
+
+// Of a sparse page: bit j, the sequence asked for at position j is in one of the first n cells.
+fn sparse_mask(sequences: &[u32], filled: u64, n: usize, row: u32) -> u64
+    requires { ⌜ (length (now sequences) ≡ 64) × (n < 64) ⌝ }
+    ensures { λ r. ⌜ Masks (now (sequences .entry)) filled row n r ⌝ }
+{
+    let mut mask: u64 = 0;
+    let mut c: usize = 0;
+    while c < n {
+        let sequence = sequences[c];
+        if sequence / 64 == row {
+            if words::bit(filled, c) == 1 {
+                mask = words::set(mask, (sequence % 64) as usize);
+            }
+        }
+        c += 1;
+    }
+    mask
+}
+
+// The first position from `slot` on at which the sequence asked for does not stand; 64 if it stands at all of them.
+pub fn page_run(sequences: &[u32], w: PageWords, n: usize, slot: usize, row: u32) -> usize
+    requires { ⌜ (length (now sequences) ≡ 64) × (n < 64) × (slot < 64) ⌝ }
+    ensures { λ r. ⌜ Runs n w (now (sequences .entry)) slot row r ⌝ }
+{
+    let kind = w.kind;
+    let occupied = w.occupied;
+    let filled = w.filled;
+    if words::bit(occupied, slot) == 0 {
+        return slot;
+    }
+    if kind == 2 {
+        return dense_run(sequences, filled, slot, row);
+    }
+    words::lowest(!sparse_mask(sequences, filled, n, row), slot)
+}
