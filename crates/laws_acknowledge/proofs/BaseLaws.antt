@@ -4,18 +4,22 @@ use mathlib.Core.Path.{_≡_, sym, ap, _∙_}
 use mathlib.Core.Bool.{true}
 use Prim.Native.Nat.{ℕ, _+_, _-_, _^_, _≤_, _<_}
 use native.Mathlib.Omega.{arith}
-use lib.Dec.{ltb, leb}
-use borrow.Author.Tests.{ltb-true, ltb-false, leb-true, le-leb}
-use Rattle.words.proofs.CaseLaws.{bool}
+use lib.Dec.{ltb}
+use borrow.Author.Tests.{ltb-true, ltb-false, leb-true}
+use Rattle.words.proofs.CaseLaws.{bool, both}
 use Rattle.model.specs.Table.{Table, sequenceAt, distance}
 use Rattle.model.specs.Point.{isLive, reach, pointOf}
 use Rattle.laws_acknowledge.specs.Advance.{advance}
-use Rattle.laws_acknowledge.specs.Increments.{removed, afterSetBase}
+use Rattle.laws_acknowledge.specs.Increments.{removed, upToPoint, afterSetBase}
 use Rattle.laws_acknowledge.proofs.DistanceLaws.{sequence-zero, sequence-lt, sequence-on, sequence-same, at-distance-own}
 use Rattle.laws_acknowledge.proofs.AdvanceLaws.{reach-is, advance-over, advance-same, point-advance, point-eq, point-missed, point-distance, point-same-from}
 use Rattle.laws_acknowledge.proofs.LiveLaws.{remove-other}
 
 -- ---- the base set
+
+-- the test of a new base: it is no further than the point
+up-to-if : (size base point s : ℕ) → upToPoint size base point s ≡ true → distance base s ≤ distance base point
+up-to-if size base point s m = leb-true _ _ (both _ _ m .0)
 
 module _ (size : ℕ) (t : Table) (base s : ℕ) (size-fits : size ≤ 65536) (base-fits : base < 2 ^ 31) (fits : s < 2 ^ 31) where
   abbrev d : ℕ
@@ -55,12 +59,13 @@ module _ (size : ℕ) (t : Table) (base s : ℕ) (size-fits : size ≤ 65536) (b
   point-base =
       let far = point-distance size t base (omega arith) base-fits in
       let top = reach-is size t base .top in
-      rw (far, le-leb q size top) (bool (leb d q)
-      (λ l. let near = leb-true d q l in
-      rw l (bool (ltb q size)
-      (λ h. rw h (base-kept near (ltb-true q size h)))
-      (λ h. rw h (base-on near (omega (arith, ltb-false q size h))))))
-      (λ l. rw l (point-advance size t s)))
+      bool (upToPoint size base (pointOf size t base) s)
+      (λ m.
+      let near : d ≤ q = omega (arith, far, up-to-if size base (pointOf size t base) s m) in
+      rw m (bool (ltb (distance base (pointOf size t base)) size)
+      (λ h. rw h (base-kept near (omega (arith, far, ltb-true (distance base (pointOf size t base)) size h))))
+      (λ h. rw h (base-on near (omega (arith, far, ltb-false (distance base (pointOf size t base)) size h))))))
+      (λ m. rw m (point-advance size t s))
 
 -- ---- the front taken
 

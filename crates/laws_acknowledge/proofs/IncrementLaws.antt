@@ -4,15 +4,15 @@ use mathlib.Core.Bool.{Bool, true, false, not, true≢false}
 use Prim.Native.Nat.{ℕ, suc, _+_, _^_, _≤_, _<_}
 use native.Mathlib.Omega.{arith}
 use native.Mathlib.Decide.{ℕ-discrete}
-use lib.Dec.{eqb, ltb}
-use borrow.Author.Tests.{eqb-true, eqb-false, ltb-true, ltb-false}
-use Rattle.words.proofs.CaseLaws.{bool}
+use lib.Dec.{ltb}
+use borrow.Author.Tests.{eqb-true, eq-eqb, ltb-true, ltb-false, lt-ltb, not-true}
+use Rattle.words.proofs.CaseLaws.{bool, both}
 use Rattle.window.specs.Memory.{position}
 use Rattle.model.specs.Calls.{insert, exchange, remove}
 use Rattle.model.specs.Table.{Table, holds, finds, sequenceAt, TableState, tableDoes, distance}
 use Rattle.model.specs.Point.{isLive, reach, pointOf}
 use Rattle.laws_acknowledge.specs.Advance.{advance}
-use Rattle.laws_acknowledge.specs.Increments.{inserted, exchanged, removed, afterInsert, afterRemove}
+use Rattle.laws_acknowledge.specs.Increments.{inserted, exchanged, removed, movesPoint, afterInsert, afterRemove}
 use Rattle.laws_acknowledge.proofs.DistanceLaws.{sequence-same, distance-at, at-distance, position-wraps}
 use Rattle.laws_acknowledge.proofs.AdvanceLaws.{advance-over, reach-is, point-advance, point-eq, point-missed, point-distance, point-same}
 use Rattle.laws_acknowledge.proofs.LiveLaws.{finds-once, insert-other, insert-own, insert-keeps, exchange-live, remove-other, remove-own, remove-drops}
@@ -39,6 +39,16 @@ point-exchange size t base s v = point-same size t (exchanged size t s v) base (
 
 -- ---- insert
 
+-- the test of an insert: it is new, at the point, and the point is below window_size from the base
+moves-if : (size base point s : ℕ) (new : Bool) → movesPoint size base point s new ≡ true → (new ≡ true) × (s ≡ point) × (distance base point < size)
+moves-if size base point s new m =
+    let a = both _ _ m in
+    let b = both _ _ (a .1) in
+    (a .0, eqb-true _ _ (b .0), ltb-true _ _ (b .1))
+
+if-moves : (size base point s : ℕ) (new : Bool) → new ≡ true → s ≡ point → distance base point < size → movesPoint size base point s new ≡ true
+if-moves size base point s new n e l = rw (n, eq-eqb s point e, lt-ltb (distance base point) size l)
+
 module _ (size : ℕ) (t : Table) (base s v : ℕ) where
   abbrev u : Table
   u = inserted size t s v
@@ -60,14 +70,12 @@ module _ (size : ℕ) (t : Table) (base s v : ℕ) where
         live = λ j a b. insert-keeps size t s v (sequenceAt base j) (i .live j a b);
       })
 
-  -- insert at any other sequence, whether new, replacing or refused
-  insert-away : (s ≡ point → ⊥) → pointOf size u base ≡ point
-  insert-away n = insert-stays (λ l. insert-other size t s v point n ∙ point-missed size t base l)
-
-  -- replacing or refused: at the point it can only be refused, by another sequence at the position
-  insert-held : holds (t (position size s)) ≡ true → pointOf size u base ≡ point
-  insert-held h = insert-stays (λ l. elim (ℕ-discrete s point) [
-    | yes e ↦ rw (← e) (insert-own size t s v ∙ rw h (ap (isLive size t) e ∙ point-missed size t base l))
+  -- so it stays, unless s is new and the point: at the point an insert that is not new is refused, by another sequence at the position
+  insert-misses : (holds (t (position size s)) ≡ false → s ≡ point → r < size → ⊥) → pointOf size u base ≡ point
+  insert-misses n = insert-stays (λ l. elim (ℕ-discrete s point) [
+    | yes e ↦ bool (holds (t (position size s)))
+        (λ h. rw (← e) (insert-own size t s v ∙ rw h (ap (isLive size t) e ∙ point-missed size t base l)))
+        (λ h. absurd (n h e l))
     | no n ↦ insert-other size t s v point n ∙ point-missed size t base l
   ])
 
@@ -83,14 +91,14 @@ module _ (size : ℕ) (t : Table) (base s v : ℕ) where
   pub point-insert : size ≤ 65536 → base < 2 ^ 31 → pointOf size u base ≡ afterInsert size u base point s (not (holds (t (position size s))))
   point-insert fits low =
       let far = point-distance size t base (omega arith) low in
-      let next : r + 1 ≡ suc r = omega arith in
-      bool (holds (t (position size s)))
-      (λ h. rw h (insert-held h))
-      (λ h. rw h (bool (eqb s point)
-      (λ e. rw (e, far) (bool (ltb r size)
-      (λ l. rw (l, next) (insert-at-point h (eqb-true s point e) (ltb-true r size l)))
-      (λ l. rw l (insert-stays (λ m. absurd (omega (arith, ltb-false r size l)))))))
-      (λ e. rw e (insert-away (eqb-false s point e)))))
+      let next : suc r ≡ distance base point + 1 = omega (arith, far) in
+      let new = not (holds (t (position size s))) in
+      bool (movesPoint size base point s new)
+      (λ m.
+      let i = moves-if size base point s new m in
+      rw m (insert-at-point (not-true (holds (t (position size s))) (i .0)) (i .1) (omega (arith, far, i .2))
+      ∙ ap (λ (x : ℕ). sequenceAt base (advance size u base x)) next))
+      (λ m. rw m (insert-misses (λ h e l. true≢false (sym (if-moves size base point s new (rw h) e (omega (arith, far))) ∙ m))))
 
 -- ---- remove
 

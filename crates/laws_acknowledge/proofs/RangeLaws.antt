@@ -50,21 +50,10 @@ module _ (cap start count : ℕ) (low : start < cap) (some : 1 ≤ count) where
     start-round : start < b → (start + cap - b) % cap ≡ start + cap - b
     start-round l = mod-eq-of-lt (omega arith)
 
-    -- the position at that distance is covered
-    pub least-covered : covers cap start count ((b + leastCovered cap start count b) % cap) ≡ true
-    least-covered = bool (covers cap start count b)
-        (λ i. rw i (let e : b + 0 ≡ b = omega arith in ap (λ (x : ℕ). covers cap start count (x % cap)) e ∙ ap (covers cap start count) (mod-eq-of-lt inside) ∙ i))
-        (λ i. rw i (ap (covers cap start count) (at-start) ∙ covers-once start (omega arith) (omega arith)))
-      where
-        at-start : (b + (start + cap - b) % cap) % cap ≡ start
-        at-start =
-            let e : b + (start + cap - b) ≡ start + cap = omega arith in
-            add-mod-mod b (start + cap - b) cap ∙ ap (λ (x : ℕ). x % cap) e ∙ add-mod-right start cap ∙ mod-eq-of-lt low
-
-    -- and none before it is
+    -- no position before the least covered distance is in the range
     pub least-first : (j : ℕ) → j < leastCovered cap start count b → j < cap → covers cap start count ((b + j) % cap) ≡ false
     least-first j l h = bool (covers cap start count b)
-        (λ i. absurd (let z : j < 0 = rw i at l in omega arith))
+        (λ i. let z = rw i at l in absurd (omega (arith, z)))
         (λ i. let z : j < (start + cap - b) % cap = rw i at l in
         let far = out-round b i in
         elim (decLe b start) [
@@ -79,6 +68,17 @@ module _ (cap start count : ℕ) (low : start < cap) (some : 1 ≤ count) where
                 | no m ↦ rw (round-below cap b j (omega arith)) (covers-no-high (b + j) (omega arith))
               ]
         ])
+
+    -- and the one at that distance is
+    pub least-covered : covers cap start count ((b + leastCovered cap start count b) % cap) ≡ true
+    least-covered = bool (covers cap start count b)
+        (λ i. rw i (let e : b + 0 ≡ b = omega arith in ap (λ (x : ℕ). covers cap start count (x % cap)) e ∙ ap (covers cap start count) (mod-eq-of-lt inside) ∙ i))
+        (λ i. rw i (ap (covers cap start count) at-start ∙ covers-once start (omega arith) (omega arith)))
+      where
+        at-start : (b + (start + cap - b) % cap) % cap ≡ start
+        at-start =
+            let e : b + (start + cap - b) ≡ start + cap = omega arith in
+            add-mod-mod b (start + cap - b) cap ∙ ap (λ (x : ℕ). x % cap) e ∙ add-mod-right start cap ∙ mod-eq-of-lt low
 
     -- by one subtraction and one comparison
     pub least-code : leastCovered cap start count b ≡ (let off = (start + cap - b) % cap in cond (ltb cap (off + count)) 0 off)
@@ -120,6 +120,7 @@ module _ (size : ℕ) (t : Table) (base start count : ℕ) (fits : size ≤ 6553
       (ap (covers cap start count) (position-at size base j)
       ∙ least-first cap start count starts some (base % cap) (position-lt size base) j l (omega (arith, size-le size fits)))
 
+  -- remove_range: the point after it
   pub point-range : pointOf size u base ≡ afterRange cap start count base (pointOf size t base)
   point-range =
       let far = point-distance size t base (omega arith) low in

@@ -22,9 +22,11 @@ removed size t s = at t (position size s) (removeAt s (t (position size s)))
 
 -- insert: `new` says that nothing stood at the position. Only a new value at the point itself moves the point, and not where the point
 -- is base plus window_size: then the advance from the distance after it.
+abbrev pub movesPoint : ℕ → (base point s : ℕ) → Bool → Bool
+movesPoint size base point s new = new && (eqb s point && ltb (distance base point) size)
+
 abbrev pub afterInsert : ℕ → Table → (base point s : ℕ) → Bool → ℕ
-afterInsert size t base point s new =
-    cond (new && (eqb s point && ltb (distance base point) size)) (sequenceAt base (advance size t base (distance base point + 1))) point
+afterInsert size t base point s new = cond (movesPoint size base point s new) (sequenceAt base (advance size t base (distance base point + 1))) point
 
 -- remove: a sequence that was found before the point is the point after it
 abbrev pub afterRemove : (base point s : ℕ) → Bool → ℕ
@@ -40,12 +42,16 @@ afterRange cap start count base point =
     let d = leastCovered cap start count (base % cap) in
     cond (ltb d (distance base point)) (sequenceAt base d) point
 
--- The base set to s, which changes no value. If s is in base .. point, all from s up to the point are live, and the point stays; but if
--- it was base plus window_size, the advance goes on from there. Else the advance from s. (A point further than window_size from its
--- base is no table's; testing for it keeps `size - distance base s` from falling below 0 whatever the header holds.)
+-- s is in base .. point. (A point further than window_size from its base is no table's; the test for it keeps `size - distance base s`
+-- from falling below 0 whatever a header holds.)
+abbrev pub upToPoint : ℕ → (base point s : ℕ) → Bool
+upToPoint size base point s = leb (distance base s) (distance base point) && leb (distance base point) size
+
+-- The base set to s, which changes no value. If s is in base .. point, all from s up to the point are live, and the point stays; but a
+-- point that was base plus window_size may go on, by the advance from there. Else the advance from s.
 -- Taking the front is a removal of the base, and then the base set to the next sequence.
 abbrev pub afterSetBase : ℕ → Table → (base point s : ℕ) → ℕ
 afterSetBase size t base point s =
-    cond (leb (distance base s) (distance base point) && leb (distance base point) size)
+    cond (upToPoint size base point s)
     (cond (ltb (distance base point) size) point (sequenceAt s (advance size t s (size - distance base s))))
     (sequenceAt s (advance size t s 0))
