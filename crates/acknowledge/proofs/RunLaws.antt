@@ -1,10 +1,9 @@
 -- The live sequences of one page, over plain variables: the mask of a sparse page by a pass over its cells, and what a run over cells or
 -- over the mask says of what stands at the positions. Assumes nothing.
 use mathlib.Core.Path.{_≡_, sym, ap, _∙_}
-use mathlib.Core.Bool.{Bool, true, false}
-use mathlib.Core.Option.{Option}
+use mathlib.Core.Bool.{true, false}
 use mathlib.Core.List.{List}
-use Prim.Native.Nat.{ℕ, _+_, _-_, _*_, _/_, _%_, _^_, _≤_, _<_}
+use Prim.Native.Nat.{ℕ, _+_, _-_, _*_, _%_, _^_, _≤_, _<_}
 use native.Mathlib.Omega.{arith}
 use native.Mathlib.Decide.{ℕ-discrete}
 use lib.ListN.{getD}
@@ -14,15 +13,14 @@ use Rattle.words.specs.Word.{bitAt, setBit, lowest}
 use Rattle.words.proofs.BitLaws.{bit-lt, bit-none, bit-not}
 use Rattle.words.proofs.ChangeLaws.{with-same, with-other}
 use Rattle.words.proofs.LowestLaws.{lowest-is}
-use Rattle.model.specs.Table.{Pair, finds}
+use Rattle.model.specs.Table.{finds}
 use Rattle.model.specs.Window.{Page, cellOf, standsAt}
-use Rattle.model.specs.Sound.{Used}
 use Rattle.page_base.specs.declared.PageWords.{PageWords}
 use Rattle.page_base.specs.Page.{page, Placed}
 use Rattle.page_base.proofs.PartLaws.{cell-in}
 use Rattle.page_base.proofs.PlaceLaws.{few-cells}
 use Rattle.page_base.proofs.StandLaws.{stands-cell, stands-none}
-use Rattle.page_base.proofs.ReadLaws.{Found, found-cell}
+use Rattle.page_base.proofs.ReadLaws.{found-cell}
 use Rattle.acknowledge.specs.Contracts.{InRow, DenseRun, Masks, Runs}
 
 -- ---- the cells of a dense page

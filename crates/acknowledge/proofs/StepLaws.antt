@@ -1,21 +1,20 @@
 -- The advance page by page, over plain variables: the sequences of one row of 64 have the positions of one page; what a run over a page
 -- says of the sequences of its row, and how far the advance is then. Assumes nothing.
 use mathlib.Core.Path.{_≡_, refl, sym, ap, _∙_, subst}
-use mathlib.Core.Bool.{Bool, true, false}
-use mathlib.Core.Option.{Option}
+use mathlib.Core.Bool.{true, false}
 use mathlib.Core.List.{List}
-use Prim.Native.Nat.{ℕ, _+_, _-_, _*_, _/_, _%_, _^_, _≤_, _<_}
+use Prim.Native.Nat.{ℕ, _+_, _-_, _*_, _/_, _%_, _≤_, _<_}
 use native.Mathlib.Omega.{arith}
 use native.Mathlib.Nat.{div-add-mod, mul-add-mod-self-left, mod-eq-of-lt}
 use Rattle.window.specs.declared.AdaptiveReceiverPacketWindow.{AdaptiveReceiverPacketWindow}
 use Rattle.window.specs.Memory.{Memory, memory, capacity, pageCount, position}
 use Rattle.window.proofs.MemoryLaws.{position-slot, position-lt, capacity-pages}
-use Rattle.model.specs.Table.{Pair, Table, finds, sequenceAt}
+use Rattle.model.specs.Table.{Table, finds, sequenceAt}
 use Rattle.model.specs.Point.{isLive}
 use Rattle.model.specs.Window.{decode, liveAt, standsAt}
 use Rattle.model.specs.Sound.{Sound}
 use Rattle.page_base.specs.declared.PageWords.{PageWords}
-use Rattle.page_base.specs.Page.{wordsAt, partOf, page, Placed}
+use Rattle.page_base.specs.Page.{wordsAt, partOf, page}
 use Rattle.page_base.proofs.LiveLaws.{page-placed, live-none, live-is}
 use Rattle.call_base.specs.Contracts.{Reachable}
 use Rattle.call_base.proofs.FitLaws.{sequence-bounds}
@@ -50,9 +49,9 @@ module _ (h : AdaptiveReceiverPacketWindow) (ss pages blocks : List ℕ) (s p r 
   below : p / 64 < pageCount (h .«window_size»)
   below = rw e (sequence-bounds (h .«window_size») s .page)
 
-  -- what stands at the position of a sequence of the row
-  at-row : (vs : List ℕ) (j : ℕ) → j < 64 → position (h .«window_size») (64 * (s / 64) + j) ≡ 64 * (p / 64) + j
-  at-row vs j l = row-position (h .«window_size») s j l ∙ ap (λ (x : ℕ). 64 * (x / 64) + j) (sym e)
+  -- the position of a sequence of the row
+  at-row : (j : ℕ) → j < 64 → position (h .«window_size») (64 * (s / 64) + j) ≡ 64 * (p / 64) + j
+  at-row j l = row-position (h .«window_size») s j l ∙ ap (λ (x : ℕ). 64 * (x / 64) + j) (sym e)
 
   pub run-unreachable : r ≡ 0 → (q : ℕ) → q ≡ s % 64 → LiveRun h ss pages blocks s q
   run-unreachable z q i = record {
@@ -61,7 +60,7 @@ module _ (h : AdaptiveReceiverPacketWindow) (ss pages blocks : List ℕ) (s p r 
     live = λ vs ok j a b. absurd (omega arith);
     missed = λ vs ok l.
         let k : (64 * (p / 64) + q) / 64 ≡ p / 64 = omega arith in
-        let f = at-row vs q l in
+        let f = at-row q l in
         ap (λ (x : ℕ). finds (64 * (s / 64) + q) (liveAt (decode h (m vs)) x)) f
         ∙ ap (finds (64 * (s / 64) + q)) (live-none h (m vs) (64 * (p / 64) + q) (rw k (unreachable h (m vs) ok (p / 64) below r reach z)));
   }
@@ -86,7 +85,7 @@ module _ (h : AdaptiveReceiverPacketWindow) (ss pages blocks : List ℕ) (s p r 
           let x = 64 * (s / 64) + j in
           let k : (64 * g + j) / 64 ≡ g = omega arith in
           let i : (64 * g + j) % 64 ≡ j = omega arith in
-          ap (λ (y : ℕ). finds x (liveAt (decode h (m vs)) y)) (at-row vs j l)
+          ap (λ (y : ℕ). finds x (liveAt (decode h (m vs)) y)) (at-row j l)
           ∙ ap (finds x) (live-is h (m vs) (64 * g + j) (rw k below) (rw k (is-reachable h (m vs) ok g below r reach n)))
           ∙ (rw (k, i) refl)
 

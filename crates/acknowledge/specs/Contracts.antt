@@ -14,7 +14,7 @@ use Rattle.model.specs.Point.{isLive, pointOf}
 use Rattle.model.specs.Window.{Window, decode, liveAt, standsAt}
 use Rattle.model.specs.Steps.{setBase, setPoint}
 use Rattle.model.specs.Sound.{Sound}
-use Rattle.laws_acknowledge.specs.Advance.{advance as advanceOf}
+use Rattle.laws_acknowledge.specs.Advance.{advance}
 use Rattle.laws_acknowledge.specs.Increments.{afterInsert, afterSetBase}
 use Rattle.page_base.specs.declared.PageWords.{PageWords}
 use Rattle.page_base.specs.Page.{page, Placed}
@@ -72,11 +72,11 @@ module _ (h : AdaptiveReceiverPacketWindow) (ss pages blocks : List ℕ) where
   pub record Advances (base d r : ℕ) : Type 0 where
     pub from : d ≤ r
     pub top : r ≤ h .«window_size»
-    pub is : (vs : List ℕ) → Sound (windowFor vs) → r ≡ advanceOf (h .«window_size») (liveAt (windowFor vs)) base d
+    pub is : (vs : List ℕ) → Sound (windowFor vs) → r ≡ advance (h .«window_size») (liveAt (windowFor vs)) base d
 
   -- r is the sequence there
   pub record PointFrom (base d r : ℕ) : Type 0 where
-    pub is : (vs : List ℕ) → Sound (windowFor vs) → r ≡ sequenceAt base (advanceOf (h .«window_size») (liveAt (windowFor vs)) base d)
+    pub is : (vs : List ℕ) → Sound (windowFor vs) → r ≡ sequenceAt base (advance (h .«window_size») (liveAt (windowFor vs)) base d)
 
   -- r is the header with the point after an insert of s that put a new pair
   pub record Inserts (s : ℕ) (r : AdaptiveReceiverPacketWindow) : Type 0 where

@@ -1,7 +1,6 @@
 -- The sequences passed are live (Passed); each turn goes over the rest of a page (pass-on), and ends at the first that is not live
 -- (pass-stop) or at window_size (pass-end, pass-all). Assumes nothing.
-use mathlib.Core.Path.{_≡_}
-use Prim.Native.Nat.{_-_, _≤_}
+use Prim.Native.Nat.{_-_}
 use native.Mathlib.Omega.{arith}
 use borrow.Author.Needs.{needs}
 use Rattle.acknowledge.proofs.StepLaws.{Passed, pass-none, pass-all, pass-end, pass-stop, pass-on}

@@ -1,5 +1,4 @@
-use mathlib.Core.Path.{_≡_, sym, ap, _∙_}
-use Prim.Native.Nat.{ℕ, _<_, _≤_}
+use mathlib.Core.Path.{_∙_}
 use native.Mathlib.Omega.{arith}
 use Rattle.window.proofs.MemoryLaws.{position-lt, capacity-le}
 use Rattle.acknowledge.proofs.CoverLaws.{least-own, least-first}

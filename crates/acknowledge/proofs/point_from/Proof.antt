@@ -3,10 +3,6 @@ use Rattle.model.specs.Table.{sequenceAt}
 use borrow.Author.Needs.{needs}
 use Rattle.acknowledge.proofs.point_from.Statement.{statement}
 use Rattle.acknowledge.proofs.point_from.Tie as tie
-use Rattle.acknowledge.proofs.point_from.Reads as reads
-use Rattle.acknowledge.proofs.point_from.Lts as lts
-use Rattle.acknowledge.proofs.advance.Reads as advance-reads
-use Rattle.acknowledge.proofs.sequence_at.Reads as sequence-at-reads
 
 advance-requires : tie.Need-advance-requires
 advance-requires c κs = search needs

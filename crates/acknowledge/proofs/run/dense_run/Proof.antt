@@ -1,5 +1,4 @@
 -- The cells passed are in use and of the row; the first that is not ends the run. Assumes nothing.
-use mathlib.Core.Path.{sym, _∙_}
 use Prim.Native.Nat.{ℕ, _-_, _≤_, _<_}
 use native.Mathlib.Omega.{arith}
 use Rattle.words.proofs.BitLaws.{bit-lt}
@@ -8,9 +7,6 @@ use Rattle.acknowledge.proofs.RunLaws.{row-more}
 use borrow.Author.Needs.{needs}
 use Rattle.acknowledge.proofs.run.dense_run.Statement.{statement}
 use Rattle.acknowledge.proofs.run.dense_run.Tie as tie
-use Rattle.acknowledge.proofs.run.dense_run.Reads as reads
-use Rattle.acknowledge.proofs.run.dense_run.Lts as lts
-use Rattle.words.proofs.bit.Reads as bit-reads
 
 abbrev Inv-loop : tie.InvT-loop
 Inv-loop sequences filled slot row c₀ c = (slot ≤ c) × (c ≤ 64) × ((k : ℕ) → slot ≤ k → k < c → InRow sequences filled row k)
@@ -18,43 +14,34 @@ Inv-loop sequences filled slot row c₀ c = (slot ≤ c) × (c ≤ 64) × ((k : 
 abbrev μ-loop : tie.MeasureT-loop
 μ-loop sequences filled slot row c₀ c = 64 - c
 
--- src/run.rt:16:5
 loop-holds : tie.Need-loop-holds Inv-loop μ-loop
 loop-holds c = (omega arith, omega arith, λ k a b. absurd (omega arith))
 
--- src/run.rt:17:12
 bit-requires : tie.Need-bit-requires Inv-loop μ-loop
 bit-requires c κs = search needs
 
--- src/run.rt:18:13
 returns : tie.Need-returns Inv-loop μ-loop
 returns c =
     let i = c .before .before .before .loop .inv in
     record { from = i .0; top = i .1; held = i .2; missed = λ l r. omega (arith, r .0, c .before .bit .ensures, c .if1 .taken) }
 
--- src/run.rt:20:12
 mul-if2 : tie.Need-mul-if2 Inv-loop μ-loop
 mul-if2 c = search needs
 
--- src/run.rt:20:12
 shared-slice-read-if2 : tie.Need-shared-slice-read-if2 Inv-loop μ-loop
 shared-slice-read-if2 c = search needs
 
--- src/run.rt:21:13
 returns-2 : tie.Need-returns-2 Inv-loop μ-loop
 returns-2 c =
     let i = c .before .before .before .before .before .loop .inv in
     record { from = i .0; top = i .1; held = i .2; missed = λ l r. omega (arith, r .1, c .if2 .taken) }
 
--- src/run.rt:23:9
 add-c : tie.Need-add-c Inv-loop μ-loop
 add-c c = search needs
 
--- src/run.rt:16:5
 loop-less : tie.Need-loop-less Inv-loop μ-loop
 loop-less c = search needs
 
--- src/run.rt:16:5
 loop-again : tie.Need-loop-again Inv-loop μ-loop
 loop-again c =
     let a = c .before .before .before .before .before .before .before .args in
@@ -66,7 +53,6 @@ loop-again c =
           (omega (arith, c .before .before .before .bit .ensures, c .before .before .if1 .left, bit-lt (a .filled) j), omega (arith, c .if2 .left)),
     )
 
--- src/run.rt:11:1
 returns-3 : tie.Need-returns-3 Inv-loop μ-loop
 returns-3 c =
     let i = c .before .loop .inv in

@@ -5,38 +5,25 @@ use Rattle.acknowledge.proofs.RunLaws.{run-none, run-dense, run-sparse}
 use borrow.Author.Needs.{needs}
 use Rattle.acknowledge.proofs.run.page_run.Statement.{statement}
 use Rattle.acknowledge.proofs.run.page_run.Tie as tie
-use Rattle.acknowledge.proofs.run.page_run.Reads as reads
-use Rattle.acknowledge.proofs.run.page_run.Lts as lts
-use Rattle.acknowledge.proofs.run.dense_run.Reads as dense-run-reads
-use Rattle.acknowledge.proofs.run.sparse_mask.Reads as sparse-mask-reads
-use Rattle.words.proofs.bit.Reads as bit-reads
-use Rattle.words.proofs.lowest.Reads as lowest-reads
 
--- src/run.rt:55:8
 bit-requires : tie.Need-bit-requires
 bit-requires c κs = search needs
 
--- src/run.rt:56:9
 returns : tie.Need-returns
 returns c = run-none _ _ _ _ _ (omega arith) (sym (c .before .bit .ensures) ∙ c .if1 .taken)
 
--- src/run.rt:59:9
 dense-run-requires : tie.Need-dense-run-requires
 dense-run-requires c κs = search needs
 
--- src/run.rt:59:9
 returns-2 : tie.Need-returns-2
 returns-2 c = run-dense _ _ _ _ _ (omega arith) _ (c .before .if2 .taken) (c .dense-run .ensures)
 
--- src/run.rt:61:20
 sparse-mask-requires : tie.Need-sparse-mask-requires
 sparse-mask-requires c κs = search needs
 
--- src/run.rt:61:5
 lowest-requires : tie.Need-lowest-requires
 lowest-requires c κs = search needs
 
--- src/run.rt:48:1
 returns-3 : tie.Need-returns-3
 returns-3 c = run-sparse _ _ _ _ _ (omega arith) _ _ (c .before .before .if2 .left) (omega arith) (omega arith) (c .before .sparse-mask .ensures) (c .lowest .ensures)
 

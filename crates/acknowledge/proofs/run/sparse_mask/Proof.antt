@@ -1,17 +1,13 @@
 -- The mask has the positions of those of the cells passed that are in use and of the row. Assumes nothing.
-use mathlib.Core.Path.{_≡_, sym, ap, _∙_}
+use mathlib.Core.Path.{_≡_, sym, _∙_}
 use mathlib.Core.Logic.{⊎-elim}
-use Prim.Native.Nat.{ℕ, _-_, _≤_, _<_}
+use Prim.Native.Nat.{_-_, _≤_}
 use native.Mathlib.Omega.{arith}
-use Rattle.acknowledge.specs.Contracts.{InRow, Masks}
+use Rattle.acknowledge.specs.Contracts.{Masks}
 use Rattle.acknowledge.proofs.RunLaws.{mask-none, mask-skip, mask-put}
 use borrow.Author.Needs.{needs}
 use Rattle.acknowledge.proofs.run.sparse_mask.Statement.{statement}
 use Rattle.acknowledge.proofs.run.sparse_mask.Tie as tie
-use Rattle.acknowledge.proofs.run.sparse_mask.Reads as reads
-use Rattle.acknowledge.proofs.run.sparse_mask.Lts as lts
-use Rattle.words.proofs.bit.Reads as bit-reads
-use Rattle.words.proofs.set.Reads as set-reads
 
 abbrev Inv-loop : tie.InvT-loop
 Inv-loop sequences filled n row mask₀ c₀ mask c = (c ≤ n) × Masks sequences filled row c mask
@@ -19,39 +15,30 @@ Inv-loop sequences filled n row mask₀ c₀ mask c = (c ≤ n) × Masks sequenc
 abbrev μ-loop : tie.MeasureT-loop
 μ-loop sequences filled n row mask₀ c₀ mask c = n - c
 
--- src/run.rt:35:5
 loop-holds : tie.Need-loop-holds Inv-loop μ-loop
 loop-holds c = (omega arith, mask-none _ _ _)
 
--- src/run.rt:36:24
 mul-sequence : tie.Need-mul-sequence Inv-loop μ-loop
 mul-sequence c = search needs
 
--- src/run.rt:36:24
 shared-slice-read-sequence : tie.Need-shared-slice-read-sequence Inv-loop μ-loop
 shared-slice-read-sequence c = search needs
 
--- src/run.rt:38:16
 bit-requires : tie.Need-bit-requires Inv-loop μ-loop
 bit-requires c κs = search needs
 
--- src/run.rt:39:41
 cast-set : tie.Need-cast-set Inv-loop μ-loop
 cast-set c = search needs
 
--- src/run.rt:39:17
 set-requires : tie.Need-set-requires Inv-loop μ-loop
 set-requires c κs = search needs
 
--- src/run.rt:42:9
 add-c : tie.Need-add-c Inv-loop μ-loop
 add-c c = search needs
 
--- src/run.rt:35:5
 loop-less : tie.Need-loop-less Inv-loop μ-loop
 loop-less c = search needs
 
--- src/run.rt:35:5
 loop-again : tie.Need-loop-again Inv-loop μ-loop
 loop-again c =
     let a = c .before .before .before .before .before .args in
@@ -66,7 +53,6 @@ loop-again c =
           (c .if1 .came),
     )
 
--- src/run.rt:29:1
 returns : tie.Need-returns Inv-loop μ-loop
 returns c =
     let i = c .before .loop .inv in
