@@ -4,3 +4,4 @@ pub mod RunLaws
 pub mod StepLaws
 pub mod CoverLaws
 pub mod PointLaws
+pub mod ActLaws

@@ -47,6 +47,23 @@ pub record Runs (n : ℕ) (w : PageWords) (ss : List ℕ) (slot row r : ℕ) : T
 
 -- ---- the whole window
 
+-- v with window_size, N and demote_at of w
+abbrev pub withSizes : AdaptiveReceiverPacketWindow → AdaptiveReceiverPacketWindow → AdaptiveReceiverPacketWindow
+withSizes v w = record {
+  «window_size» = w .«window_size»;
+  n = w .n;
+  «demote_at» = w .«demote_at»;
+  len = v .len;
+  «retired_held» = v .«retired_held»;
+  «release_cursor» = v .«release_cursor»;
+  base = v .base;
+  point = v .point;
+  «nonempty_summary» = v .«nonempty_summary»;
+  «retired_blocks» = v .«retired_blocks»;
+  promotions = v .promotions;
+  demotions = v .demotions;
+}
+
 -- the lists that are looked at are as long as the header names them
 pub record ListsLent (h : AdaptiveReceiverPacketWindow) (ss pages blocks : List ℕ) : Type 0 where
   pub within : Within (h .«window_size») (h .n) (h .«demote_at»)

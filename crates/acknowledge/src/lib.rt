@@ -17,7 +17,7 @@ ghost use Rattle.window.specs.Memory.{capacity, position as positionOf};
 ghost use Rattle.model.specs.Table.{sequenceAt};
 ghost use Rattle.model.specs.Steps.{setPoint};
 ghost use Rattle.laws_acknowledge.specs.Increments.{afterRemove, leastCovered, afterRange};
-ghost use Rattle.acknowledge.specs.Contracts.{ListsLent, LiveRun, Advances, PointFrom, Inserts, MovesPoint, MovesBase, DecidesCurrent};
+ghost use Rattle.acknowledge.specs.Contracts.{withSizes, ListsLent, LiveRun, Advances, PointFrom, Inserts, MovesPoint, MovesBase, DecidesCurrent};
 
 // The sequence at distance `d` from the base: sums are modulo 2^31.
 pub fn sequence_at(base: u32, d: u32) -> u32
@@ -98,6 +98,21 @@ pub fn with_point(w: AdaptiveReceiverPacketWindow, point: u32) -> AdaptiveReceiv
     let mut v = w;
     v.point = point;
     v
+}
+
+// `v` with window_size, N and demote_at of `w`. No call changes them; so the lists are looked at no further than they were tested,
+// whatever a state that is not sound made of them.
+pub fn with_sizes(
+    v: AdaptiveReceiverPacketWindow,
+    w: AdaptiveReceiverPacketWindow,
+) -> AdaptiveReceiverPacketWindow
+    ensures { λ r. ⌜ r ≡ withSizes v w ⌝ }
+{
+    let mut h = v;
+    h.window_size = w.window_size;
+    h.n = w.n;
+    h.demote_at = w.demote_at;
+    h
 }
 
 // After an insert that put a new pair: only at the point does it move.

@@ -9,6 +9,7 @@ use denote.Enum.Declared.{tagOf}
 use lib.Dec.{leb}
 use lib.ListN.{length, drop}
 use borrow.Author.Tests.{leb-true}
+use Rattle.window.specs.declared.AdaptiveReceiverPacketWindow.{AdaptiveReceiverPacketWindow}
 use Rattle.window.specs.declared.answers.Answer.{Answer}
 use Rattle.window.specs.declared.answers.Step.{Step}
 use Rattle.window.specs.declared.refusals.Refusal.{Refusal}
@@ -95,28 +96,29 @@ does-as c u r z d =
 pub current : (w : Window) → SoundWithPoint w → repoint w ≡ w
 current w ok = ap (λ (p : ℕ). withHeader w (setPoint (w .header) p)) (sym (ok .point))
 
--- what a call left, with another point
-abbrev pub leftWith : Left → ℕ → Left
-leftWith r p = record { answer = r .answer; count = r .count; state = record { header = setPoint (r .state .header) p; memory = r .state .memory }; list = r .list }
+-- what a call left, with another header
+abbrev pub leftWith : Left → AdaptiveReceiverPacketWindow → Left
+leftWith r h = record { answer = r .answer; count = r .count; state = record { header = h; memory = r .state .memory }; list = r .list }
 
-repointed : (u : State) (p : ℕ) → p ≡ pointFor (windowOf u) → windowOf (record { header = setPoint (u .header) p; memory = u .memory }) ≡ repoint (windowOf u)
+-- the right point in the header is the right point of the window
+repointed : (u : State) (h : AdaptiveReceiverPacketWindow) → h ≡ setPoint (u .header) (pointFor (windowOf u)) → windowOf (record { header = h; memory = u .memory }) ≡ repoint (windowOf u)
 unfolding decode
-repointed u p e = ap (λ (q : ℕ). withHeader (windowOf u) (setPoint (u .header) q)) e
+repointed u h e = ap (λ (k : AdaptiveReceiverPacketWindow). decode k (u .memory)) e
 
--- a call that did all but the point, and then set the point to the right one
-pub pointed-acts : (c : Call) (u : State) (l : List ℕ) (r : Left) (p : ℕ) → Admitted c u l r
-    → (SoundWithPoint (windowOf u) → p ≡ pointFor (windowOf (r .state)))
-    → (r .answer ≡ refused 4 → p ≡ r .state .header .point)
-    → Acts c u l (leftWith r p)
-pointed-acts c u l r p a right stays = record {
+-- A call that did all but the point, and then left a header with the right one. With a refusal 4 that is the header as it was.
+pub pointed-acts : (c : Call) (u : State) (l : List ℕ) (r : Left) (h : AdaptiveReceiverPacketWindow) → Admitted c u l r
+    → (SoundWithPoint (windowOf u) → h ≡ setPoint (r .state .header) (pointFor (windowOf (r .state))))
+    → (SoundWithPoint (windowOf u) → r .answer ≡ refused 4 → h ≡ r .state .header)
+    → Acts c u l (leftWith r h)
+pointed-acts c u l r h a right stays = record {
   sound = λ ok. let d = a .sound (ok .sound) in record {
     answer = d .answer;
-    window = repointed (r .state) p (right ok) ∙ ap repoint (d .window);
+    window = repointed (r .state) h (right ok) ∙ ap repoint (d .window);
     returned = d .returned;
     count = d .count;
   };
   occupied = λ ok e. let t = a .occupied (ok .sound) e in record {
-    state = ap (λ (q : ℕ). record { header = setPoint (r .state .header) q; memory = r .state .memory }) (stays e) ∙ t .state;
+    state = ap (λ (k : AdaptiveReceiverPacketWindow). record { header = k; memory = r .state .memory }) (stays ok e) ∙ t .state;
     list = t .list;
     count = t .count;
   };
@@ -127,11 +129,6 @@ pointed-acts c u l r p a right stays = record {
   past-memory = a .past-memory;
   lengths = a .lengths;
 }
-
--- a call after which the point that was there is still right
-pub still-acts : (c : Call) (u : State) (l : List ℕ) (r : Left) → Admitted c u l r
-    → (SoundWithPoint (windowOf u) → r .state .header .point ≡ pointFor (windowOf (r .state))) → Acts c u l r
-still-acts c u l r a right = pointed-acts c u l r (r .state .header .point) a right (λ e. refl)
 
 -- ---- calls that are admitted
 
