@@ -10,3 +10,4 @@ pub mod LiveInsertLaws
 pub mod ReviveLaws
 pub mod InsertLaws
 pub mod EnterLaws
+pub mod AcknowledgeLaws

@@ -11,9 +11,10 @@ use Rattle.window.specs.declared.answers.Step.{Step}
 use Rattle.window.specs.declared.refusals.Refusal.the-variants.{Unsound}
 use Rattle.window.specs.Memory.{Memory, pageCount, blockCount, pageWords, blockWords}
 use Rattle.model.specs.Calls as model
+use Rattle.model.specs.Table.{sequenceAt}
 use Rattle.model.specs.Window.{Window, decode}
 use Rattle.model.specs.Pages as one
-use Rattle.model.specs.Steps.{withPage, putPage, addLive, countPromotion, isNew}
+use Rattle.model.specs.Steps.{setPoint, withPage, putPage, addLive, countPromotion, isNew}
 use Rattle.model.specs.Sound.{Sound}
 use Rattle.page_base.specs.declared.PageWords.{PageWords}
 use Rattle.page_base.specs.declared.find.Read.{Read}
@@ -30,7 +31,10 @@ use Rattle.page_store.specs.Contracts as updates
 use Rattle.page_store.specs.Contracts.{Stores, holds}
 use Rattle.page_release.specs.declared.PageReleased.{PageReleased}
 use Rattle.page_release.specs.Contracts.{Within, Revives}
+use Rattle.laws_acknowledge.specs.Increments.{afterRemove}
 use Rattle.call_base.specs.Answers.{answerOf, stateOf}
+use Rattle.acknowledge.specs.Contracts as acknowledge
+use Rattle.acknowledge.specs.Contracts.{withSizes, MovesBase}
 use Rattle.call_point.specs.declared.insert.Put.{Put}
 
 -- ---- the cells of one page
@@ -138,3 +142,32 @@ module _ (x : PageReleased) (m : Memory) (g n k s v : ℕ) (r : Step) (m′ : Me
     pub count : r .answer .count ≡ x .count
     pub unsound : x .sound ≡ false → (r .answer .answer ≡ Refused Unsound) × (stateOf (r .window) m′ ≡ stateOf (x .window) m)
     pub sound : x .sound ≡ true → Entered
+
+-- ---- the point
+
+abbrev pub isFound : model.Answer → Bool
+isFound model.done = false
+isFound model.new = false
+isFound (model.replaced v) = false
+isFound model.absent = false
+isFound (model.found n) = true
+isFound (model.pair s v next) = false
+isFound (model.released values units) = false
+isFound (model.refused k) = false
+
+-- r is the step x of an insert of sequence s into the window w, with the point after it
+pub record KeepsInserted (w : AdaptiveReceiverPacketWindow) (ss pages blocks : List ℕ) (s : ℕ) (x r : Step) : Type 0 where
+  pub outcome : r .answer ≡ x .answer
+  pub new : isNew (answerOf (x .answer .answer)) ≡ true → acknowledge.Inserts (withSizes (x .window) w) ss pages blocks s (r .window)
+  pub old : isNew (answerOf (x .answer .answer)) ≡ false → r .window ≡ x .window
+
+-- r is the step x of a remove of sequence s, with the point after it
+pub record KeepsTaken (s : ℕ) (x r : Step) : Type 0 where
+  pub outcome : r .answer ≡ x .answer
+  pub window : r .window ≡ setPoint (x .window) (afterRemove (x .window .base) (x .window .point) s (isFound (answerOf (x .answer .answer))))
+
+-- r is the step x of a remove of the base of w, with the base moved by one if it was found, and the point after it
+pub record MovesFront (w : AdaptiveReceiverPacketWindow) (ss pages blocks : List ℕ) (x r : Step) : Type 0 where
+  pub outcome : r .answer ≡ x .answer
+  pub found : isFound (answerOf (x .answer .answer)) ≡ true → MovesBase (withSizes (x .window) w) ss pages blocks (sequenceAt (w .base) 1) (r .window)
+  pub absent : isFound (answerOf (x .answer .answer)) ≡ false → r .window ≡ x .window

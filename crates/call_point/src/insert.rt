@@ -1,4 +1,6 @@
 // insert: the sequence and the value into the window. A retired page is first released whole.
+use acknowledge::after_insert;
+use acknowledge::with_sizes;
 use call_base::admits::Arguments;
 use call_base::admits::admits;
 use call_base::reachable;
@@ -23,9 +25,10 @@ ghost use lib.ListN.{length};
 ghost use Rattle.window.specs.Memory.{pageWords, blockWords, rowIn};
 ghost use Rattle.window.specs.Lent.{ListsFit, foundIn, leftIn};
 ghost use Rattle.model.specs.Calls.{insert as insertOf};
+ghost use Rattle.acknowledge.specs.Contracts.{ListsLent};
 ghost use Rattle.call_base.specs.Answers.{MeetsInto};
 ghost use Rattle.call_base.specs.Contracts.{AdmittedInto};
-ghost use Rattle.call_point.specs.Contracts.{InsertsIn, Keeps, InsertsLive, MakesLive, LiveAnswer, Enters};
+ghost use Rattle.call_point.specs.Contracts.{InsertsIn, Keeps, InsertsLive, MakesLive, LiveAnswer, Enters, KeepsInserted};
 
 // The header after an insert into a page, and the answer.
 pub struct Put {
@@ -246,6 +249,31 @@ fn insert_value(
     )
 }
 
+// The point after an insert into the window `w`: a new pair may move it.
+fn keep_point(
+    w: AdaptiveReceiverPacketWindow,
+    step: Step,
+    sequences: &[u32],
+    pages: &[u64],
+    blocks: &[u64],
+    sequence: u32,
+) -> Step
+    requires { ⌜ ListsLent w (now sequences) (now pages) (now blocks) ⌝ }
+    ensures { λ r. ⌜ KeepsInserted w (now (sequences .entry)) (now (pages .entry)) (now (blocks .entry)) sequence step r ⌝ }
+{
+    let left = step.window;
+    let outcome = step.answer;
+    let given = outcome.answer;
+    if let Answer::New = given {
+        let sized = with_sizes(left, w);
+        return Step {
+            window: after_insert(sized, sequences, pages, blocks, sequence),
+            answer: outcome,
+        };
+    }
+    step
+}
+
 pub fn insert(
     w: AdaptiveReceiverPacketWindow,
     sequences: &mut [u32],
@@ -270,7 +298,7 @@ pub fn insert(
     if let Verdict::Refuse(why) = verdict {
         return refuse(w, why);
     }
-    insert_value(
+    let step = insert_value(
         w,
         sequences,
         values,
@@ -279,5 +307,6 @@ pub fn insert(
         returned,
         sequence,
         value,
-    )
+    );
+    keep_point(w, step, sequences, pages, blocks, sequence)
 }

@@ -1,4 +1,5 @@
 // remove: the value of the sequence taken out of the window.
+use acknowledge::after_remove;
 use call_base::admits::Arguments;
 use call_base::admits::NO_LIST;
 use call_base::admits::admits;
@@ -23,7 +24,7 @@ ghost use Rattle.window.specs.Lent.{ListsFit};
 ghost use Rattle.model.specs.Calls.{remove as removeOf};
 ghost use Rattle.call_base.specs.Answers.{MeetsBy};
 ghost use Rattle.call_base.specs.Contracts.{AdmittedBy};
-ghost use Rattle.call_point.specs.Contracts.{RemovesIn, KeepsRemoved};
+ghost use Rattle.call_point.specs.Contracts.{RemovesIn, KeepsRemoved, KeepsTaken};
 
 // The value of the sequence taken out of page `page`, which has these words.
 fn remove_in_page(
@@ -71,7 +72,7 @@ fn keep_removed(
 }
 
 // Once no refusal applies. Values of a retired page are not found.
-fn remove_value(
+pub fn remove_value(
     w: AdaptiveReceiverPacketWindow,
     sequences: &mut [u32],
     values: &mut [u32],
@@ -93,6 +94,22 @@ fn remove_value(
     let left = r.words;
     let read = r.answer;
     keep_removed(w, pages, blocks, page, left, r.demoted, read)
+}
+
+// The point after a remove: a sequence that was found may move it.
+fn keep_point(step: Step, sequence: u32) -> Step
+    ensures { λ r. ⌜ KeepsTaken sequence step r ⌝ }
+{
+    let left = step.window;
+    let outcome = step.answer;
+    let given = outcome.answer;
+    if let Answer::Found(value) = given {
+        return Step {
+            window: after_remove(left, sequence),
+            answer: outcome,
+        };
+    }
+    step
 }
 
 pub fn remove(
@@ -117,5 +134,6 @@ pub fn remove(
     if let Verdict::Refuse(why) = verdict {
         return refuse(w, why);
     }
-    remove_value(w, sequences, values, pages, blocks, sequence)
+    let step = remove_value(w, sequences, values, pages, blocks, sequence);
+    keep_point(step, sequence)
 }

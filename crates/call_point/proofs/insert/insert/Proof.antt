@@ -1,74 +1,63 @@
--- The call is refused as `admits` says, or else does what `insert_value` promises. Assumes nothing.
-use mathlib.Core.Path.{refl}
-use lib.Dec.{leb}
-use denote.Ref.{now}
-use lib.ListN.{length}
-use Rattle.window.specs.Memory.{memory}
-use Rattle.model.specs.Calls.{Call, insert}
-use Rattle.model.specs.Contract.{State}
-use Rattle.call_base.specs.Answers.{stateOf}
-use Rattle.call_base.proofs.MeetsLaws.{refusal-meets, admitted-fits, admitted-places, admitted-meets}
 use borrow.Author.Needs.{needs}
 use Rattle.call_point.proofs.insert.insert.Statement.{statement}
 use Rattle.call_point.proofs.insert.insert.Tie as tie
+use Rattle.call_point.proofs.insert.insert.Reads as reads
+use Rattle.call_point.proofs.insert.insert.Lts as lts
+use Rattle.call_base.proofs.admits.admits.Reads as admits-reads
+use Rattle.call_base.proofs.refuse.Reads as refuse-reads
+use Rattle.call_point.proofs.insert.insert_value.Reads as insert-value-reads
+use Rattle.call_point.proofs.insert.keep_point.Reads as keep-point-reads
 
-abbrev start : tie.After-admits → tie.Start
-start a = a .before .before .before .before .before .before
-
--- the call, and the state that it finds
-abbrev call : tie.Start → Call
-call s = insert (s .args .sequence) (s .args .value) (leb 384 (length (now (s .args .returned))))
-
-abbrev found : tie.Start → State
-found s = stateOf (s .args .w) (memory (now (s .args .sequences)) (now (s .args .values)) (now (s .args .pages)) (now (s .args .blocks)))
-
+-- src/insert.rt:289:9
 admits-requires : tie.Need-admits-requires
 admits-requires c κs = search needs
 
+-- src/insert.rt:298:28
 enum-known-verdict : tie.Need-enum-known-verdict
 enum-known-verdict c = search needs
 
+-- src/insert.rt:299:9
 refuse-requires : tie.Need-refuse-requires
 refuse-requires c κs = search needs
 
+-- src/insert.rt:299:9
 returns : tie.Need-returns
-returns c =
-    let v : tie.After-verdict = c .before .before in
-    let a : tie.After-admits = v .before .before in
-    refusal-meets (call (start a)) (found (start a)) (length (now (start a .args .returned))) refl (a .admits .result) (a .admits .ensures) (now (start a .args .returned)) _ (c .refuse .result) (v .verdict .given .1) (c .refuse .ensures)
+returns c = ?
 
 enum-told : tie.Need-enum-told
 enum-told c = search needs
 
+-- src/insert.rt:301:9
 insert-value-requires : tie.Need-insert-value-requires
-insert-value-requires c κs =
-    let k : tie.At-match-keys2 = c .before .before .before .before .before .before in
-    let a : tie.After-admits = k .before in (
-      admitted-fits (call (start a)) (found (start a)) (length (now (start a .args .returned))) refl (a .admits .result) (a .admits .ensures) (k .match .keys2),
-      admitted-places (call (start a)) (found (start a)) (length (now (start a .args .returned))) refl (a .admits .result) (a .admits .ensures) (k .match .keys2),
-    )
+insert-value-requires c κs = ?
 
+-- src/insert.rt:311:5
+keep-point-requires : tie.Need-keep-point-requires
+keep-point-requires c κs = ?
+
+-- src/insert.rt:277:1
 same-length : tie.Need-same-length
 same-length c = search needs
 
+-- src/insert.rt:277:1
 same-length-2 : tie.Need-same-length-2
 same-length-2 c = search needs
 
+-- src/insert.rt:277:1
 same-length-3 : tie.Need-same-length-3
 same-length-3 c = search needs
 
+-- src/insert.rt:277:1
 same-length-4 : tie.Need-same-length-4
 same-length-4 c = search needs
 
+-- src/insert.rt:277:1
 same-length-5 : tie.Need-same-length-5
 same-length-5 c = search needs
 
+-- src/insert.rt:277:1
 returns-2 : tie.Need-returns-2
-returns-2 c =
-    let x : tie.After-insert-value = c .before .before .before .before .before .before .before .before .before .before in
-    let k : tie.At-match-keys2 = x .before .before .before .before .before .before .before in
-    let a : tie.After-admits = k .before in
-    admitted-meets (call (start a)) (found (start a)) (length (now (start a .args .returned))) refl (a .admits .result) (a .admits .ensures) (k .match .keys2) (now (start a .args .returned)) _ refl (x .insert-value .ensures)
+returns-2 c = ?
 
 pub insert-spec : {M : Type 1} → statement M
 insert-spec =
@@ -80,6 +69,7 @@ insert-spec =
     returns
     enum-told
     insert-value-requires
+    keep-point-requires
     same-length
     same-length-2
     same-length-3
