@@ -1,5 +1,7 @@
--- The live sequences of one page (RunLaws), and of the page of a sequence in the window; the advance page by page (StepLaws). The
--- positions of a range from the base on (CoverLaws), and the point after each call by the code's tests (PointLaws).
+-- For callers: that the lists are long enough (LentLaws). For the proofs of this crate, over plain variables: the live sequences of one
+-- page (RunLaws), the advance page by page (StepLaws), the positions of a range from the base on (CoverLaws), the point after each call
+-- by the tests of the code (PointLaws).
+pub mod LentLaws
 pub mod RunLaws
 pub mod StepLaws
 pub mod CoverLaws
