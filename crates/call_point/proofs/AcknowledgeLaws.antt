@@ -3,19 +3,24 @@
 use mathlib.Core.Path.{_≡_, refl, sym, ap, subst, _∙_}
 use mathlib.Core.Bool.{Bool, true, false, cond, true≢false}
 use mathlib.Core.Option.{Option, none, some}
-use mathlib.Core.List.{List, []}
+use mathlib.Core.List.{List, [], _∷_}
 use Prim.Native.Nat.{ℕ}
 use native.Mathlib.Omega.{arith}
+use denote.Enum.Declared.{tagOf}
+use types.Run.{OneOf, miss}
 use lib.Dec.{eqb}
 use lib.ListN.{length}
 use Rattle.words.proofs.CaseLaws.{bool}
 use Rattle.window.specs.declared.AdaptiveReceiverPacketWindow.{AdaptiveReceiverPacketWindow}
-use Rattle.window.specs.declared.answers.Answer.the-variants.{Done}
+use Rattle.window.specs.declared.answers.Answer.{Answer}
+use Rattle.window.specs.declared.answers.Answer.the-variants.{Done, New, Replaced, Absent, Found, Pair, Released, Refused}
 use Rattle.window.specs.declared.answers.Outcome.{Outcome}
 use Rattle.window.specs.declared.answers.Step.{Step}
 use Rattle.window.specs.Memory.{Memory}
+use Rattle.window.proofs.answers.Answer as enum
 use Rattle.model.specs.Calls.{Call, insert, exchange, remove, set-base, take-front, done, refused}
-use Rattle.model.specs.Table.{Pair, Table, finds, valueIf, sequenceAt, argumentRefusal}
+use Rattle.model.specs.Table as table
+use Rattle.model.specs.Table.{Table, finds, valueIf, sequenceAt, argumentRefusal}
 use Rattle.model.specs.Window.{Window, decode, sizeOf, liveAt, pointFor}
 use Rattle.model.specs.Steps.{setBase, setPoint, headerFrom, withHeader, isNew, liveHere, removeStep, frontStep, knownBy, repoint, windowActs, windowDoes}
 use Rattle.model.specs.Sound.{SoundWithPoint}
@@ -32,6 +37,65 @@ use Rattle.acknowledge.specs.Contracts as acknowledge
 use Rattle.acknowledge.specs.Contracts.{withSizes, MovesBase}
 use Rattle.acknowledge.proofs.ActLaws.{proper, left-window, left-sound, same-sizes, works-acts, still-acts}
 use Rattle.call_point.specs.Contracts.{isFound, KeepsInserted, KeepsTaken, MovesFront}
+
+-- ---- steps: the point of step x, where its answer says that the call moved it
+
+module _ (w : AdaptiveReceiverPacketWindow) (ss pages blocks : List ℕ) (s : ℕ) (x : Step) where
+  pub new-kept : (h r : AdaptiveReceiverPacketWindow) → x .answer .answer ≡ New → h ≡ withSizes (x .window) w → acknowledge.Inserts h ss pages blocks s r
+      → KeepsInserted w ss pages blocks s x (record { window = r; answer = x .answer })
+  new-kept h r a e i = record {
+    outcome = refl;
+    new = λ t. subst (λ (k : AdaptiveReceiverPacketWindow). acknowledge.Inserts k ss pages blocks s r) e i;
+    old = λ t. absurd (true≢false (sym (ap (λ (y : Answer). isNew (answerOf y)) a) ∙ t));
+  }
+
+  pub old-kept : isNew (answerOf (x .answer .answer)) ≡ false → KeepsInserted w ss pages blocks s x x
+  old-kept e = record { outcome = refl; new = λ t. absurd (true≢false (sym t ∙ e)); old = λ t. refl }
+
+-- past the pattern `New` no value is new
+pub not-new : (a : Answer) → OneOf (0 ∷ 2 ∷ 3 ∷ 4 ∷ 5 ∷ 6 ∷ 7 ∷ []) (tagOf enum.the-type a) → isNew (answerOf a) ≡ false
+not-new Done t = refl
+not-new New t = absurd (miss (0 ∷ 2 ∷ 3 ∷ 4 ∷ 5 ∷ 6 ∷ 7 ∷ []) 1 tt t)
+not-new (Replaced v) t = refl
+not-new Absent t = refl
+not-new (Found n) t = refl
+not-new (Pair s v next) t = refl
+not-new (Released values units) t = refl
+not-new (Refused why) t = refl
+
+-- and past `Found` none was found
+pub not-found : (a : Answer) → OneOf (0 ∷ 1 ∷ 2 ∷ 3 ∷ 5 ∷ 6 ∷ 7 ∷ []) (tagOf enum.the-type a) → isFound (answerOf a) ≡ false
+not-found Done t = refl
+not-found New t = refl
+not-found (Replaced v) t = refl
+not-found Absent t = refl
+not-found (Found n) t = absurd (miss (0 ∷ 1 ∷ 2 ∷ 3 ∷ 5 ∷ 6 ∷ 7 ∷ []) 4 tt t)
+not-found (Pair s v next) t = refl
+not-found (Released values units) t = refl
+not-found (Refused why) t = refl
+
+pub found-taken : (s : ℕ) (x : Step) (v : ℕ) (r : AdaptiveReceiverPacketWindow) → x .answer .answer ≡ Found v
+    → r ≡ setPoint (x .window) (afterRemove (x .window .base) (x .window .point) s true) → KeepsTaken s x (record { window = r; answer = x .answer })
+found-taken s x v r a e = record {
+  outcome = refl;
+  window = e ∙ ap (λ (y : Answer). setPoint (x .window) (afterRemove (x .window .base) (x .window .point) s (isFound (answerOf y)))) (sym a);
+}
+
+pub none-taken : (s : ℕ) (x : Step) → isFound (answerOf (x .answer .answer)) ≡ false → KeepsTaken s x x
+none-taken s x e = record { outcome = refl; window = ap (λ (b : Bool). setPoint (x .window) (afterRemove (x .window .base) (x .window .point) s b)) (sym e) }
+
+module _ (w : AdaptiveReceiverPacketWindow) (ss pages blocks : List ℕ) (x : Step) where
+  pub found-moves : (v : ℕ) (h : AdaptiveReceiverPacketWindow) (next : ℕ) (r : AdaptiveReceiverPacketWindow) → x .answer .answer ≡ Found v
+      → h ≡ withSizes (x .window) w → next ≡ sequenceAt (w .base) 1 → MovesBase h ss pages blocks next r
+      → MovesFront w ss pages blocks x (record { window = r; answer = x .answer })
+  found-moves v h next r a e n i = record {
+    outcome = refl;
+    found = λ t. subst (λ (y : ℕ). MovesBase (withSizes (x .window) w) ss pages blocks y r) n (subst (λ (k : AdaptiveReceiverPacketWindow). MovesBase k ss pages blocks next r) e i);
+    absent = λ t. absurd (true≢false (sym (ap (λ (y : Answer). isFound (answerOf y)) a) ∙ t));
+  }
+
+  pub absent-moves : isFound (answerOf (x .answer .answer)) ≡ false → MovesFront w ss pages blocks x x
+  absent-moves e = record { outcome = refl; found = λ t. absurd (true≢false (sym t ∙ e)); absent = λ t. refl }
 
 -- ---- exchange
 
@@ -79,7 +143,7 @@ module _ (s v : ℕ) (listed : Bool) (w : AdaptiveReceiverPacketWindow) (m : Mem
 
 -- ---- remove
 
-found-value : (s : ℕ) (o : Option Pair) → isFound (valueIf s o) ≡ finds s o
+found-value : (s : ℕ) (o : Option table.Pair) → isFound (valueIf s o) ≡ finds s o
 found-value s none = refl
 found-value s (some e) = bool (eqb (e .sequence) s) (λ i. rw i) (λ i. rw i)
 

@@ -1,4 +1,4 @@
--- The call is refused as `admits` says, or else does what `exchange_value` promises. Assumes nothing.
+-- The call is refused as `admits` says, or else does what `exchange_value` promises, which leaves the point right. Assumes nothing.
 use mathlib.Core.Path.{refl}
 use mathlib.Core.List.{[]}
 use denote.Ref.{now}
@@ -6,7 +6,8 @@ use Rattle.window.specs.Memory.{memory}
 use Rattle.model.specs.Calls.{Call, exchange}
 use Rattle.model.specs.Contract.{State}
 use Rattle.call_base.specs.Answers.{stateOf}
-use Rattle.call_base.proofs.MeetsLaws.{refusal-meets, admitted-fits, admitted-meets}
+use Rattle.call_base.proofs.MeetsLaws.{refusal-meets, admitted-fits, window-asked, admitted-meets}
+use Rattle.call_point.proofs.AcknowledgeLaws.{exchange-acts}
 use borrow.Author.Needs.{needs}
 use Rattle.call_point.proofs.exchange.exchange.Statement.{statement}
 use Rattle.call_point.proofs.exchange.exchange.Tie as tie
@@ -53,7 +54,9 @@ returns-2 c =
     let x : tie.After-exchange-value = c .before .before in
     let k : tie.At-match-keys2 = x .before .before .before in
     let a : tie.After-admits = k .before in
-    admitted-meets (call (start a)) (found (start a)) 384 refl (a .admits .result) (a .admits .ensures) (k .match .keys2) [] _ refl (x .exchange-value .ensures)
+    let z = window-asked (call (start a)) (found (start a)) 384 refl (a .admits .result) (a .admits .ensures) (k .match .keys2) in
+    admitted-meets (call (start a)) (found (start a)) 384 refl (a .admits .result) (a .admits .ensures) (k .match .keys2) [] _ refl
+    (exchange-acts (start a .args .sequence) (start a .args .value) (found (start a)) [] _ (x .exchange-value .ensures) z)
 
 pub exchange-spec : {M : Type 1} → statement M
 exchange-spec =

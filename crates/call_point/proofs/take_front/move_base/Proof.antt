@@ -1,3 +1,7 @@
+-- The base moves only where its value was found. Assumes nothing.
+use denote.Ref.{now}
+use Rattle.acknowledge.proofs.LentLaws.{sized-lent}
+use Rattle.call_point.proofs.AcknowledgeLaws.{found-moves, absent-moves, not-found}
 use borrow.Author.Needs.{needs}
 use Rattle.call_point.proofs.take_front.move_base.Statement.{statement}
 use Rattle.call_point.proofs.take_front.move_base.Tie as tie
@@ -7,29 +11,33 @@ use Rattle.acknowledge.proofs.after_base.Reads as after-base-reads
 use Rattle.acknowledge.proofs.sequence_at.Reads as sequence-at-reads
 use Rattle.acknowledge.proofs.with_sizes.Reads as with-sizes-reads
 
--- src/take_front.rt:33:26
 enum-known-given : tie.Need-enum-known-given
 enum-known-given c = search needs
 
--- src/take_front.rt:34:13
 with-sizes-requires : tie.Need-with-sizes-requires
 with-sizes-requires c κs = search needs
 
--- src/take_front.rt:35:13
 sequence-at-requires : tie.Need-sequence-at-requires
 sequence-at-requires c κs = search needs
 
--- src/take_front.rt:37:21
 after-base-requires : tie.Need-after-base-requires
-after-base-requires c κs = ?
+after-base-requires c κs =
+    let z : tie.After-with-sizes = c .before in
+    let s = z .before .before .before .before .before .before .before .before .before in
+    sized-lent (s .args .step .window) (s .args .w) _ (now (s .args .sequences)) (now (s .args .pages)) (now (s .args .blocks)) (z .with-sizes .ensures) (s .pre)
 
--- src/take_front.rt:36:9
 returns : tie.Need-returns
-returns c = ?
+returns c =
+    let n : tie.After-sequence-at = c .before in
+    let z : tie.After-with-sizes = n .before in
+    let g : tie.After-given = z .before .before in
+    let s = g .before .before .before .before .before .before .before .args in
+    found-moves (s .w) (now (s .sequences)) (now (s .pages)) (now (s .blocks)) (s .step) _ _ _ _ (g .given .given .1) (z .with-sizes .ensures) (n .sequence-at .ensures) (c .after-base .ensures)
 
--- src/take_front.rt:20:1
 returns-2 : tie.Need-returns-2
-returns-2 c = ?
+returns-2 c =
+    let s = c .before .before .before .before .before .before .args in
+    absent-moves (s .w) (now (s .sequences)) (now (s .pages)) (now (s .blocks)) (s .step) (not-found (s .step .answer .answer) (c .match .keys2))
 
 pub move-base-spec : {M : Type 1} → statement M
 move-base-spec =
