@@ -236,10 +236,11 @@ module _ (c : Call) (u : State) (places : ℕ) (listed : hasPlaces (roleOf c .li
     pub admitted-meets : (l : List ℕ) (r : Left) → roleOf c .checks ≡ false → Acts c u l r → Meets c u l r
     admitted-meets l r other a = write-meets c u l r other none-applies a
 
-    -- a call that fills its return list
-    pub filled-admitted : (l : List ℕ) (r : Left) → places ≡ length l
-        → (step : Window → Effect) → step (windowOf u) ≡ windowDoes (windowOf u) c → Fills step u l r → Admitted c u l r
-    filled-admitted l r long step is t = fills-admitted step c u l r (omega (arith, admitted-places)) is t
+    -- a call that fills its return list: x is what it left before the point
+    pub filled-meets : (l : List ℕ) (x r : Left) → roleOf c .checks ≡ false → places ≡ length l
+        → (step : Window → Effect) → step (windowOf u) ≡ windowDoes (windowOf u) c → Fills step u l x
+        → (Admitted c u l x → argumentRefusal (knownBy (windowOf u .header)) c ≡ 0 → Acts c u l r) → Meets c u l r
+    filled-meets l x r other long step is t acts = admitted-meets l r other (acts (fills-admitted step c u l x (omega (arith, admitted-places)) is t) window-asked)
 
 -- ---- queries
 

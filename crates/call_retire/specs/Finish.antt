@@ -1,4 +1,5 @@
--- The outcome of a call that filled its list. Definitions only. Assumes nothing.
+-- The outcome of a call that filled its list, and the point after it. Definitions only. Assumes nothing.
+use mathlib.Core.Path.{_≡_}
 use mathlib.Core.Bool.{Bool, cond}
 use Prim.Native.Nat.{ℕ}
 use Rattle.window.specs.declared.AdaptiveReceiverPacketWindow.{AdaptiveReceiverPacketWindow}
@@ -6,7 +7,23 @@ use Rattle.window.specs.declared.answers.Answer.{Answer}
 use Rattle.window.specs.declared.answers.Answer.the-variants.{Refused}
 use Rattle.window.specs.declared.answers.Step.{Step}
 use Rattle.window.specs.declared.refusals.Refusal.the-variants.{Unsound}
+use Rattle.window.specs.Memory.{capacity, position}
+use Rattle.model.specs.Steps.{setPoint}
+use Rattle.laws_acknowledge.specs.Increments.{afterRange}
+use Rattle.acknowledge.specs.Contracts.{withSizes}
 
 -- the answer, or refusal 7, with `count` values returned
 unfoldable pub finished : AdaptiveReceiverPacketWindow → Answer → ℕ → Bool → Step
 finished w a count sound = record { window = w; answer = record { answer = cond sound a (Refused Unsound); count = count } }
+
+-- ---- the point
+
+-- after every value was removed it is the base
+abbrev pub clearedStep : Step → Step
+clearedStep x = record { window = setPoint (x .window) (x .window .base); answer = x .answer }
+
+-- r is the step x of a removal of `count` positions from first's in the window w, with the point after it
+pub record KeepsRange (w : AdaptiveReceiverPacketWindow) (first count : ℕ) (x r : Step) : Type 0 where
+  pub outcome : r .answer ≡ x .answer
+  pub window : let h = withSizes (x .window) w in
+      r .window ≡ setPoint h (afterRange (capacity (h .«window_size»)) (position (h .«window_size») first) count (h .base) (h .point))

@@ -1,4 +1,5 @@
 // clear: every value retired, and a release visit with its whole budget.
+use crate::cleared;
 use crate::finish;
 use block_retire::retire_all;
 use call_base::admits::Arguments;
@@ -65,5 +66,6 @@ pub fn clear(
     if let Verdict::Refuse(why) = verdict {
         return refuse(w, why);
     }
-    clear_all(w, sequences, values, pages, blocks, returned)
+    let step = clear_all(w, sequences, values, pages, blocks, returned);
+    cleared(step)
 }

@@ -1,4 +1,5 @@
 // clear_bounded: every value retired, and at most a number of them handed back from page 0 on, the cursor kept.
+use crate::cleared;
 use crate::finish;
 use block_retire::retire_all;
 use call_base::admits::Arguments;
@@ -69,5 +70,6 @@ pub fn clear_bounded(
     if let Verdict::Refuse(why) = verdict {
         return refuse(w, why);
     }
-    clear_some(w, sequences, values, pages, blocks, returned, number)
+    let step = clear_some(w, sequences, values, pages, blocks, returned, number);
+    cleared(step)
 }

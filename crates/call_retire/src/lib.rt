@@ -5,6 +5,7 @@ pub mod clear_bounded;
 pub mod release_retired;
 pub mod remove_range;
 
+use acknowledge::after_clear;
 use window::AdaptiveReceiverPacketWindow;
 use window::answers::Answer;
 use window::answers::Outcome;
@@ -12,7 +13,7 @@ use window::answers::Step;
 use window::refusals::Refusal;
 ghost use mathlib.Core.Path.{_≡_};
 ghost use Prim.Native.Nat.{_≤_};
-ghost use Rattle.call_retire.specs.Finish.{finished};
+ghost use Rattle.call_retire.specs.Finish.{finished, clearedStep};
 
 // The outcome of a call that put `count` values into its list: the answer, or refusal 7 where it met an unsound state.
 pub fn finish(w: AdaptiveReceiverPacketWindow, answer: Answer, count: usize, sound: bool) -> Step
@@ -35,5 +36,17 @@ pub fn finish(w: AdaptiveReceiverPacketWindow, answer: Answer, count: usize, sou
             answer,
             count: returned,
         },
+    }
+}
+
+// The step with the point after every value was removed.
+pub fn cleared(step: Step) -> Step
+    ensures { λ r. ⌜ r ≡ clearedStep step ⌝ }
+{
+    let left = step.window;
+    let answer = step.answer;
+    Step {
+        window: after_clear(left),
+        answer,
     }
 }

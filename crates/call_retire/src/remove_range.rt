@@ -1,4 +1,6 @@
 // remove_range: the live values at the positions from first's to last's retired, and a release visit with its whole budget.
+use acknowledge::after_range;
+use acknowledge::with_sizes;
 use crate::finish;
 use block_marks::marks::settle_retired;
 use call_base::admits::Arguments;
@@ -23,6 +25,7 @@ ghost use Rattle.block_marks.specs.Contracts.{ChangesHeader};
 ghost use Rattle.call_base.specs.Answers.{MeetsInto};
 ghost use Rattle.call_base.specs.Contracts.{FillsBy};
 ghost use Rattle.range_retire.specs.Contracts.{Performs};
+ghost use Rattle.call_retire.specs.Finish.{KeepsRange};
 ghost use Rattle.call_retire.specs.Range.{readied, retireReady};
 
 // The header made ready for a release: with nothing retired before, `held`, the cursor goes to the page of `start`; with nothing
@@ -102,6 +105,20 @@ fn remove_positions(
     finish(window, Answer::Found(removed), at + visited.count, sound)
 }
 
+// The point after `count` positions from first's were emptied in the window `w`.
+fn keep_point(w: AdaptiveReceiverPacketWindow, step: Step, first: u32, count: usize) -> Step
+    requires { ⌜ (w .«window_size» ≤ 65536) × (count ≤ capacity (w .«window_size»)) ⌝ }
+    ensures { λ r. ⌜ KeepsRange w first count step r ⌝ }
+{
+    let left = step.window;
+    let answer = step.answer;
+    let sized = with_sizes(left, w);
+    Step {
+        window: after_range(sized, first, count),
+        answer,
+    }
+}
+
 pub fn remove_range(
     w: AdaptiveReceiverPacketWindow,
     sequences: &mut [u32],
@@ -128,5 +145,6 @@ pub fn remove_range(
     }
     let start = position(w.window_size, first);
     let count = range_count(first, last) as usize;
-    remove_positions(w, sequences, values, pages, blocks, returned, start, count)
+    let step = remove_positions(w, sequences, values, pages, blocks, returned, start, count);
+    keep_point(w, step, first, count)
 }

@@ -1,17 +1,20 @@
 -- Refused as admits says, or else what clear_all does. Assumes nothing.
-use mathlib.Core.Path.{refl}
+use mathlib.Core.Path.{refl, sym, subst}
 use Prim.Native.Nat.{_≤_}
 use denote.Ref.{now}
 use lib.Dec.{leb}
 use lib.ListN.{length}
 use borrow.Author.Needs.{needs}
+use Rattle.window.specs.declared.answers.Step.{Step}
 use Rattle.window.specs.Memory.{memory}
 use Rattle.window.specs.Lent.{ListsFit}
 use Rattle.model.specs.Calls.{clear}
 use Rattle.model.specs.Contract.{State}
-use Rattle.call_base.specs.Answers.{stateOf}
+use Rattle.call_base.specs.Answers.{stateOf, leftOf}
+use Rattle.call_base.specs.Contracts.{Acts}
 use Rattle.call_base.proofs.MeetsLaws.{refusal-meets, admitted-fits, admitted-places, filled-meets}
 use Rattle.call_retire.proofs.DoesLaws.{clear-does}
+use Rattle.call_retire.proofs.AcknowledgeLaws.{clear-acts}
 use Rattle.call_retire.proofs.clear.clear.Statement.{statement}
 use Rattle.call_retire.proofs.clear.clear.Tie as tie
 
@@ -53,6 +56,9 @@ clear-all-requires c κs =
     let m : tie.At-match-keys2 = c .before .before .before .before in
     (fit m, long m)
 
+cleared-requires : tie.Need-cleared-requires
+cleared-requires c κs = search needs
+
 same-length : tie.Need-same-length
 same-length c = search needs
 
@@ -64,11 +70,13 @@ same-length-3 c = search needs
 
 returns-2 : tie.Need-returns-2
 returns-2 c =
-    let r : tie.After-clear-all = c .before .before .before .before .before .before in
+    let r : tie.After-clear-all = c .before .before .before .before .before .before .before in
     let m : tie.At-match-keys2 = r .before .before .before .before .before in
     let s = m .before .before .before .before .before .before .before .args in
-    filled-meets (clear (leb 384 (length (now (s .returned))))) (found (m .before)) (length (now (s .returned))) refl (m .before .admits .result) (m .before .admits .ensures) (m .match .keys2) (now (s .returned)) _ refl refl
+    filled-meets (clear (leb 384 (length (now (s .returned))))) (found (m .before)) (length (now (s .returned))) refl (m .before .admits .result) (m .before .admits .ensures) (m .match .keys2) (now (s .returned)) _ _ refl refl
     _ (clear-does (s .w) (memory (now (s .sequences)) (now (s .values)) (now (s .pages)) (now (s .blocks))) (leb 384 (length (now (s .returned))))) (r .clear-all .ensures)
+    (λ a z. subst (λ (y : Step). Acts (clear (leb 384 (length (now (s .returned))))) (found (m .before)) (now (s .returned)) (leftOf y _ _)) (sym (c .cleared .ensures))
+    (clear-acts (leb 384 (length (now (s .returned)))) (found (m .before)) (now (s .returned)) (r .clear-all .result) _ _ a z (r .clear-all .ensures .taken)))
 
 pub clear-spec : {M : Type 1} → statement M
 clear-spec =
@@ -80,6 +88,7 @@ clear-spec =
     returns
     enum-told
     clear-all-requires
+    cleared-requires
     same-length
     same-length-2
     same-length-3

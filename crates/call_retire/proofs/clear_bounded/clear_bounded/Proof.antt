@@ -1,19 +1,22 @@
 -- Refused as admits says, or else what clear_some does. Assumes nothing.
-use mathlib.Core.Path.{refl}
+use mathlib.Core.Path.{refl, sym, subst}
 use Prim.Native.Nat.{_≤_}
 use denote.Ref.{now}
 use lib.Dec.{leb}
 use lib.ListN.{length}
 use borrow.Author.Needs.{needs}
+use Rattle.window.specs.declared.answers.Step.{Step}
 use Rattle.window.specs.Memory.{memory}
 use Rattle.window.specs.Lent.{ListsFit}
 use Rattle.model.specs.Calls.{clear-bounded}
 use Rattle.model.specs.Contract.{State}
-use Rattle.call_base.specs.Answers.{stateOf}
+use Rattle.call_base.specs.Answers.{stateOf, leftOf}
+use Rattle.call_base.specs.Contracts.{Acts}
 use Rattle.call_base.proofs.MeetsLaws.{refusal-meets, admitted-fits, admitted-places, admitted-arguments, filled-meets}
 use Rattle.model.specs.Steps.{knownBy}
 use Rattle.call_base.proofs.RangeLaws.{number-taken}
 use Rattle.call_retire.proofs.DoesLaws.{clear-bounded-does}
+use Rattle.call_retire.proofs.AcknowledgeLaws.{bounded-acts}
 use Rattle.call_retire.proofs.clear_bounded.clear_bounded.Statement.{statement}
 use Rattle.call_retire.proofs.clear_bounded.clear_bounded.Tie as tie
 
@@ -56,6 +59,9 @@ clear-some-requires c κs =
     let s = m .before .before .before .before .before .before .before .args in
     (fit m, long m, number-taken (knownBy (s .w)) (s .number) (admitted-arguments (clear-bounded (s .number) (leb 384 (length (now (s .returned))))) (found (m .before)) (length (now (s .returned))) refl (m .before .admits .result) (m .before .admits .ensures) (m .match .keys2)))
 
+cleared-requires : tie.Need-cleared-requires
+cleared-requires c κs = search needs
+
 same-length : tie.Need-same-length
 same-length c = search needs
 
@@ -67,11 +73,13 @@ same-length-3 c = search needs
 
 returns-2 : tie.Need-returns-2
 returns-2 c =
-    let r : tie.After-clear-some = c .before .before .before .before .before .before in
+    let r : tie.After-clear-some = c .before .before .before .before .before .before .before in
     let m : tie.At-match-keys2 = r .before .before .before .before .before in
     let s = m .before .before .before .before .before .before .before .args in
-    filled-meets (clear-bounded (s .number) (leb 384 (length (now (s .returned))))) (found (m .before)) (length (now (s .returned))) refl (m .before .admits .result) (m .before .admits .ensures) (m .match .keys2) (now (s .returned)) _ refl refl
+    filled-meets (clear-bounded (s .number) (leb 384 (length (now (s .returned))))) (found (m .before)) (length (now (s .returned))) refl (m .before .admits .result) (m .before .admits .ensures) (m .match .keys2) (now (s .returned)) _ _ refl refl
     _ (clear-bounded-does (s .w) (memory (now (s .sequences)) (now (s .values)) (now (s .pages)) (now (s .blocks))) (s .number) (leb 384 (length (now (s .returned))))) (r .clear-some .ensures)
+    (λ a z. subst (λ (y : Step). Acts (clear-bounded (s .number) (leb 384 (length (now (s .returned))))) (found (m .before)) (now (s .returned)) (leftOf y _ _)) (sym (c .cleared .ensures))
+    (bounded-acts (s .number) (leb 384 (length (now (s .returned)))) (found (m .before)) (now (s .returned)) (r .clear-some .result) _ _ a z (r .clear-some .ensures .taken)))
 
 pub clear-bounded-spec : {M : Type 1} → statement M
 clear-bounded-spec =
@@ -83,6 +91,7 @@ clear-bounded-spec =
     returns
     enum-told
     clear-some-requires
+    cleared-requires
     same-length
     same-length-2
     same-length-3

@@ -19,6 +19,7 @@ use Rattle.call_base.specs.Contracts.{Fills}
 use Rattle.call_base.proofs.MeetsLaws.{refusal-meets, admitted-fits, admitted-places, admitted-arguments, filled-meets}
 use Rattle.call_base.proofs.RangeLaws.{number-taken}
 use Rattle.call_retire.proofs.DoesLaws.{release-does}
+use Rattle.call_retire.proofs.AcknowledgeLaws.{release-acts}
 use Rattle.call_retire.proofs.ReleaseLaws.{none-fills, release-fills}
 use Rattle.call_retire.proofs.release_retired.release_retired.Statement.{statement}
 use Rattle.call_retire.proofs.release_retired.release_retired.Tie as tie
@@ -63,11 +64,12 @@ returns-2 : tie.Need-returns-2
 returns-2 c =
     let m : tie.At-match-keys2 = c .before .before .before .before .before .before in
     let s = m .before .before .before .before .before .before .before .args in
-    filled-meets (release-retired (s .budget) (leb 384 (length (now (s .returned))))) (found (m .before)) (length (now (s .returned))) refl (m .before .admits .result) (m .before .admits .ensures) (m .match .keys2) (now (s .returned)) _ refl refl
+    filled-meets (release-retired (s .budget) (leb 384 (length (now (s .returned))))) (found (m .before)) (length (now (s .returned))) refl (m .before .admits .result) (m .before .admits .ensures) (m .match .keys2) (now (s .returned)) _ _ refl refl
     _ (release-does (s .w) (memory (now (s .sequences)) (now (s .values)) (now (s .pages)) (now (s .blocks))) (s .budget) (leb 384 (length (now (s .returned)))))
     (subst (λ (y : Step). Fills (λ (w : Window). releaseStep w (s .budget)) (found (m .before)) (now (s .returned))
     (leftOf y (memory (now (s .sequences)) (now (s .values)) (now (s .pages)) (now (s .blocks))) (now (s .returned)))) (sym (c .reply .ensures))
     (none-fills (s .w) (memory (now (s .sequences)) (now (s .values)) (now (s .pages)) (now (s .blocks))) (now (s .returned)) (s .budget) (c .before .before .before .if1 .taken)))
+    (release-acts (s .budget) (leb 384 (length (now (s .returned)))) (found (m .before)) (now (s .returned)) _)
 
 -- a visit
 release-retired-requires : tie.Need-release-retired-requires
@@ -109,11 +111,12 @@ returns-3 c =
     let m : tie.At-match-keys2 = v .before .before .before .before .before .before .before in
     let s = m .before .before .before .before .before .before .before .args in
     let t = v .release-retired in
-    filled-meets (release-retired (s .budget) (leb 384 (length (now (s .returned))))) (found (m .before)) (length (now (s .returned))) refl (m .before .admits .result) (m .before .admits .ensures) (m .match .keys2) (now (s .returned)) _ refl refl
+    filled-meets (release-retired (s .budget) (leb 384 (length (now (s .returned))))) (found (m .before)) (length (now (s .returned))) refl (m .before .admits .result) (m .before .admits .ensures) (m .match .keys2) (now (s .returned)) _ _ refl refl
     _ (release-does (s .w) (memory (now (s .sequences)) (now (s .values)) (now (s .pages)) (now (s .blocks))) (s .budget) (leb 384 (length (now (s .returned)))))
     (subst (λ (y : Step). Fills (λ (w : Window). releaseStep w (s .budget)) (found (m .before)) (now (s .returned))
     (leftOf y (memory (now (s .sequences)) (now (s .values)) (t .last .1 .1 .1 .0) (t .last .1 .1 .1 .1 .0)) (t .last .1 .1 .1 .1 .1 .0))) (sym (c .finish .ensures))
     (release-fills (s .w) (now (s .sequences)) (now (s .values)) (now (s .pages)) (now (s .blocks)) (now (s .returned)) (s .budget) (t .result) _ _ _ (long m) (few m) (t .ensures)))
+    (release-acts (s .budget) (leb 384 (length (now (s .returned)))) (found (m .before)) (now (s .returned)) _)
 
 pub release-retired-spec : {M : Type 1} → statement M
 release-retired-spec =

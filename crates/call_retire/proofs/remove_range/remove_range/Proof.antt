@@ -1,4 +1,4 @@
--- Refused as admits says, or else what remove_positions does at the positions of the range. Assumes nothing.
+-- Refused as admits says, or else what remove_positions does at the positions of the range, and then the point. Assumes nothing.
 use mathlib.Core.Path.{refl, subst}
 use Prim.Native.Nat.{ℕ, _≤_}
 use native.Mathlib.Omega.{arith}
@@ -19,6 +19,7 @@ use Rattle.call_base.specs.Contracts.{Fills}
 use Rattle.call_base.proofs.MeetsLaws.{refusal-meets, admitted-fits, admitted-places, admitted-arguments, filled-meets}
 use Rattle.call_base.proofs.RangeLaws.{count-taken, count-some}
 use Rattle.call_retire.proofs.DoesLaws.{range-does}
+use Rattle.call_retire.proofs.AcknowledgeLaws.{range-acts}
 use Rattle.call_retire.proofs.remove_range.remove_range.Statement.{statement}
 use Rattle.call_retire.proofs.remove_range.remove_range.Tie as tie
 
@@ -72,6 +73,14 @@ remove-positions-requires c κs =
     let size = s .w .«window_size» in
     (f, (omega (arith, k .before .position .ensures, position-lt size (s .first)), omega (arith, k .range-count .ensures, count-some (s .first) (s .last)), omega (arith, k .range-count .ensures, few m, size-le size (f .within .size-high)), long m))
 
+keep-point-requires : tie.Need-keep-point-requires
+keep-point-requires c κs =
+    let r : tie.After-remove-positions = c .before .before .before .before .before .before .before .before .before .before in
+    let k : tie.After-range-count = r .before .before .before .before .before .before in
+    let m : tie.At-match-keys2 = k .before .before .before in
+    let f = fit m in
+    (f .within .size-high, omega (arith, k .range-count .ensures, few m, size-le (m .before .before .before .before .before .before .before .args .w .«window_size») (f .within .size-high)))
+
 same-length : tie.Need-same-length
 same-length c = search needs
 
@@ -89,16 +98,18 @@ same-length-5 c = search needs
 
 returns-2 : tie.Need-returns-2
 returns-2 c =
-    let r : tie.After-remove-positions = c .before .before .before .before .before .before .before .before .before .before in
+    let r : tie.After-remove-positions = c .before .before .before .before .before .before .before .before .before .before .before in
     let k : tie.After-range-count = r .before .before .before .before .before .before in
     let m : tie.At-match-keys2 = k .before .before .before in
     let s = m .before .before .before .before .before .before .before .args in
     let t = r .remove-positions in
     let left = leftOf (t .result) (memory (t .last .1 .0) (t .last .1 .1 .0) (t .last .1 .1 .1 .0) (t .last .1 .1 .1 .1 .0)) (t .last .1 .1 .1 .1 .1 .0) in
-    filled-meets (remove-range (s .first) (s .last) (leb 384 (length (now (s .returned))))) (found (m .before)) (length (now (s .returned))) refl (m .before .admits .result) (m .before .admits .ensures) (m .match .keys2) (now (s .returned)) _ refl refl
+    let fills = subst (λ (n : ℕ). Fills (λ (w : Window). rangeStep w (position (s .w .«window_size») (s .first)) n) (found (m .before)) (now (s .returned)) left) (k .range-count .ensures)
+    (subst (λ (p : ℕ). Fills (λ (w : Window). rangeStep w p (k .range-count .result)) (found (m .before)) (now (s .returned)) left) (k .before .position .ensures) (t .ensures)) in
+    filled-meets (remove-range (s .first) (s .last) (leb 384 (length (now (s .returned))))) (found (m .before)) (length (now (s .returned))) refl (m .before .admits .result) (m .before .admits .ensures) (m .match .keys2) (now (s .returned)) left _ refl refl
     _ (range-does (s .w) (memory (now (s .sequences)) (now (s .values)) (now (s .pages)) (now (s .blocks))) (s .first) (s .last) (leb 384 (length (now (s .returned)))))
-    (subst (λ (n : ℕ). Fills (λ (w : Window). rangeStep w (position (s .w .«window_size») (s .first)) n) (found (m .before)) (now (s .returned)) left) (k .range-count .ensures)
-    (subst (λ (p : ℕ). Fills (λ (w : Window). rangeStep w p (k .range-count .result)) (found (m .before)) (now (s .returned)) left) (k .before .position .ensures) (t .ensures)))
+    fills (λ a z. range-acts (s .first) (s .last) (leb 384 (length (now (s .returned)))) (s .w) (found (m .before) .memory) (now (s .returned)) (t .result) _ _ a z (fills .taken)
+    (k .range-count .result) (k .range-count .ensures) (c .keep-point .result) (c .keep-point .ensures))
 
 pub remove-range-spec : {M : Type 1} → statement M
 remove-range-spec =
@@ -113,6 +124,7 @@ remove-range-spec =
     range-count-requires
     cast-count
     remove-positions-requires
+    keep-point-requires
     same-length
     same-length-2
     same-length-3
