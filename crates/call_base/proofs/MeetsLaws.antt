@@ -25,7 +25,7 @@ use Rattle.model.specs.Roles.{askedOf, roleOf}
 use Rattle.model.specs.Table.{first, refusedFor, hasPlaces, argumentRefusal}
 use Rattle.model.specs.Window.{Window, decode, pointFor}
 use Rattle.model.specs.Steps.{setPoint, withHeader, Effect, unlessRefused, knownBy, windowAnswer, windowDoes, repoint, windowActs, windowStep}
-use Rattle.model.specs.Sound.{Sound, SoundWithPoint}
+use Rattle.model.specs.Sound.{SoundWithPoint}
 use Rattle.model.specs.Contract.{State, windowOf, Left, lengthsFit, refusal, Unaltered, DoesAs, Does, Meets, SamePast, SameLengths}
 use Rattle.page_base.proofs.DecodeLaws.{header-at}
 use Rattle.page_remove.proofs.WroteLaws.{stretch-length}
@@ -134,11 +134,11 @@ pointed-acts c u l r h a right stays = record {
 
 -- a query that is not refused, and what it answers
 read-meets : (q : Query) (u : State) (a : model.Answer) → (askedOf q .checks ≡ true → (SoundWithPoint (windowOf u) → ⊥) → a ≡ refused 7) → refusal u (ask q) ≡ 0
-    → (Sound (windowOf u) → a ≡ windowAnswer (windowOf u) q) → Meets (ask q) u [] (leaves u [] a)
+    → (SoundWithPoint (windowOf u) → a ≡ windowAnswer (windowOf u) q) → Meets (ask q) u [] (leaves u [] a)
 unfolding windowDoes
 read-meets q u a unsound e is = record {
   refuses = λ h. absurd (h e);
-  sound = λ z ok. does-as (ask q) u (leaves u [] a) e (record { answer = is (ok .sound); window = sym (current (windowOf u) ok); returned = refl; count = refl });
+  sound = λ z ok. does-as (ask q) u (leaves u [] a) e (record { answer = is ok; window = sym (current (windowOf u) ok); returned = refl; count = refl });
   occupied = λ z ok b. unaltered u [] a;
   none-with-4 = λ b. refl;
   unsound = λ k z not-sound. unsound k not-sound;
@@ -256,8 +256,12 @@ module _ (q : Query) (u : State) (t : Verdict)
     pub asked-arguments : refusedFor (knownBy (u .header)) (askedOf q .arguments) ≡ 0
     asked-arguments = admitted-arguments (ask q) u 384 refl t test pass
 
-    pub asked-meets : (a : Answer) (r : Step) → r ≡ replied (u .header) a → (askedOf q .checks ≡ true → (SoundWithPoint (windowOf u) → ⊥) → answerOf a ≡ refused 7)
-        → Tells q u a → Meets (ask q) u [] (leftOf r (u .memory) [])
-    asked-meets a r e unsound tells =
+    pub checked-meets : (a : Answer) (r : Step) → r ≡ replied (u .header) a → (askedOf q .checks ≡ true → (SoundWithPoint (windowOf u) → ⊥) → answerOf a ≡ refused 7)
+        → (SoundWithPoint (windowOf u) → answerOf a ≡ windowAnswer (windowOf u) q) → Meets (ask q) u [] (leftOf r (u .memory) [])
+    checked-meets a r e unsound tells =
         subst (λ (x : Step). Meets (ask q) u [] (leftOf x (u .memory) [])) (sym e)
         (read-meets q u (answerOf a) unsound (none-applies (ask q) u 384 refl t test pass) tells)
+
+    -- one that does not look at the point
+    pub asked-meets : (a : Answer) (r : Step) → r ≡ replied (u .header) a → askedOf q .checks ≡ false → Tells q u a → Meets (ask q) u [] (leftOf r (u .memory) [])
+    asked-meets a r e other tells = checked-meets a r e (λ k. absurd (true≢false (sym k ∙ other))) (λ ok. tells (ok .sound))

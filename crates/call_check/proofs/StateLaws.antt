@@ -12,6 +12,7 @@ use Rattle.window.specs.Refusals.{Within}
 use Rattle.model.specs.Window.{Window, decode}
 use Rattle.call_base.specs.Answers.{stateOf}
 use Rattle.page_check.proofs.DecideLaws.{decides-no}
+use Rattle.acknowledge.specs.Contracts.{DecidesCurrent}
 use Rattle.call_check.specs.Contracts.{DecidesHeader, DecidesBlocks, DecidesPages, DecidesSound, Checks}
 use Rattle.call_check.proofs.ClauseLaws.{sound-at, sound-block, sound-header, clauses-sound}
 
@@ -47,8 +48,19 @@ module _ (h : AdaptiveReceiverPacketWindow) (ss pages blocks : List ℕ) (within
 -- ---- the answer, by what the test of the state gave
 
 module _ (w : AdaptiveReceiverPacketWindow) (ss vs pages blocks : List ℕ) (d : Bool) (decided : DecidesSound w ss pages blocks d) where
-  pub sound-answer : not d ≡ false → Checks (stateOf w (memory ss vs pages blocks)) Done
-  sound-answer t = record { sound = λ ok. refl; unsound = λ n. absurd (n (decided .is vs .holds (not-false d t))) }
-
   pub unsound-answer : not d ≡ true → Checks (stateOf w (memory ss vs pages blocks)) (Refused Unsound)
-  unsound-answer t = record { sound = λ ok. absurd (decided .is vs .fails (not-true d t) ok); unsound = λ n. refl }
+  unsound-answer t = record { sound = λ ok. absurd (decided .is vs .fails (not-true d t) (ok .sound)); unsound = λ n. refl }
+
+  -- where that is sound, by what the test of base and point gave
+  module _ (t : not d ≡ false) (k : Bool) (current : DecidesCurrent w ss pages blocks k) where
+    pub current-answer : not k ≡ false → Checks (stateOf w (memory ss vs pages blocks)) Done
+    unfolding decode
+    current-answer e =
+        let ok = decided .is vs .holds (not-false d t) in
+        let p = current .is vs ok .holds (not-false k e) in
+        record { sound = λ s. refl; unsound = λ n. absurd (n (record { sound = ok; base = p .0; point = p .1 })) }
+
+    pub late-answer : not k ≡ true → Checks (stateOf w (memory ss vs pages blocks)) (Refused Unsound)
+    unfolding decode
+    late-answer e =
+        record { sound = λ s. absurd (current .is vs (s .sound) .fails (not-true k e) (s .base, s .point)); unsound = λ n. refl }

@@ -12,11 +12,11 @@ use Rattle.window.specs.declared.answers.Answer.{Answer}
 use Rattle.window.specs.Memory.{memory, pageCount, blockCount, pageWords, blockWords}
 use Rattle.model.specs.Window.{Window, decode}
 use Rattle.model.specs.Demand3.{one}
-use Rattle.model.specs.Sound.{Sound}
+use Rattle.model.specs.Steps.{windowAnswer}
+use Rattle.model.specs.Sound.{Sound, SoundWithPoint}
 use Rattle.model.specs.Calls.{check, refused}
 use Rattle.model.specs.Contract.{State, windowOf}
 use Rattle.call_base.specs.Answers.{answerOf}
-use Rattle.call_base.specs.Contracts.{Tells}
 use Rattle.page_base.specs.declared.PageWords.{PageWords}
 use Rattle.block_marks.specs.declared.BlockWords.{BlockWords}
 use Rattle.block_marks.specs.Marks.{pageRetired}
@@ -84,5 +84,5 @@ module _ (h : AdaptiveReceiverPacketWindow) (pages blocks : List ℕ) where
 
 -- "check: then 7, exactly if not sound"
 pub record Checks (u : State) (a : Answer) : Type 0 where
-  pub sound : Tells check u a
-  pub unsound : (Sound (windowOf u) → ⊥) → answerOf a ≡ refused 7
+  pub sound : SoundWithPoint (windowOf u) → answerOf a ≡ windowAnswer (windowOf u) check
+  pub unsound : (SoundWithPoint (windowOf u) → ⊥) → answerOf a ≡ refused 7

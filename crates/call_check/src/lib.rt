@@ -1,11 +1,12 @@
-// The call check, which says whether a state is sound: every page (page.rt), every block (block.rt) and the header (header.rt). It
-// writes nothing.
+// The call check, which says whether a state is sound: every page (page.rt), every block (block.rt) and the header (header.rt), then
+// base and point. It writes nothing.
 pub mod bits;
 pub mod block;
 pub mod header;
 pub mod page;
 pub mod values;
 
+use acknowledge::is_current;
 use block::blocks_sound;
 use call_base::admits::Arguments;
 use call_base::admits::NO_LIST;
@@ -28,7 +29,7 @@ ghost use Rattle.model.specs.Calls.{check as checkOf, ask};
 ghost use Rattle.call_base.specs.Answers.{stateOf, MeetsBy};
 ghost use Rattle.call_check.specs.Contracts.{WordsLent, DecidesSound, Checks};
 
-// Whether the state is sound, by a fixed number of passes over the pages. The values are not looked at.
+// Whether the state is sound, base and point aside, by a fixed number of passes over the pages. The values are not looked at.
 fn sound(w: AdaptiveReceiverPacketWindow, sequences: &[u32], pages: &[u64], blocks: &[u64]) -> bool
     requires { ⌜ Within (w .«window_size») (w .n) (w .«demote_at») × (capacity (w .«window_size») ≤ length (now sequences)) ⌝ }
     requires { ⌜ WordsLent (w .«window_size») (now pages) (now blocks) ⌝ }
@@ -55,6 +56,9 @@ fn checked(
     ensures { λ r. ⌜ Checks (stateOf w (foundIn sequences values pages blocks)) r ⌝ }
 {
     if !sound(w, sequences, pages, blocks) {
+        return Answer::Refused(Refusal::Unsound);
+    }
+    if !is_current(w, sequences, pages, blocks) {
         return Answer::Refused(Refusal::Unsound);
     }
     Answer::Done

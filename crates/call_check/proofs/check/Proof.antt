@@ -6,7 +6,7 @@ use Rattle.window.specs.Lent.{ListsFit}
 use Rattle.model.specs.Calls.{check}
 use Rattle.model.specs.Contract.{State}
 use Rattle.call_base.specs.Answers.{stateOf}
-use Rattle.call_base.proofs.MeetsLaws.{asked-refusal, asked-fits, asked-meets}
+use Rattle.call_base.proofs.MeetsLaws.{asked-refusal, asked-fits, checked-meets}
 use Rattle.call_check.proofs.check.Statement.{statement}
 use Rattle.call_check.proofs.check.Tie as tie
 
@@ -46,7 +46,7 @@ returns-2 : tie.Need-returns-2
 returns-2 c =
     let m : tie.At-match-keys2 = c .before .before .before in
     let s = m .before .before .before .before .before .before .args in
-    asked-meets check (found (m .before)) (m .before .admits .result) (m .before .admits .ensures) (m .match .keys2) _ _ (c .reply .ensures) (λ q. c .before .checked .ensures .unsound)
+    checked-meets check (found (m .before)) (m .before .admits .result) (m .before .admits .ensures) (m .match .keys2) _ _ (c .reply .ensures) (λ q. c .before .checked .ensures .unsound)
     (c .before .checked .ensures .sound)
 
 pub check-spec : {M : Type 1} → statement M

@@ -1,6 +1,5 @@
 -- Refused as admits says, or else what find_round finds for the sequence before (from-is). Assumes nothing.
-use mathlib.Core.Path.{_∙_}
-use mathlib.Core.Bool.{false≢true}
+use mathlib.Core.Path.{refl, _∙_}
 use native.Mathlib.Omega.{arith}
 use denote.Ref.{now}
 use borrow.Author.Needs.{needs}
@@ -53,7 +52,7 @@ returns-2 : tie.Need-returns-2
 returns-2 c =
     let m : tie.At-match-keys2 = c .before .before .before .before in
     let s = m .before .before .before .before .before .before .args in
-    asked-meets (first-from (s .sequence)) (found (m .before)) (m .before .admits .result) (m .before .admits .ensures) (m .match .keys2) _ _ (c .reply .ensures) (λ q. absurd (false≢true q))
+    asked-meets (first-from (s .sequence)) (found (m .before)) (m .before .admits .result) (m .before .admits .ensures) (m .match .keys2) _ _ (c .reply .ensures) refl
     (λ ok. c .before .find-round .ensures .gives (now (s .values)) ok
     ∙ from-is (s .w) (memory (now (s .sequences)) (now (s .values)) (now (s .pages)) (now (s .blocks))) (s .sequence) (c .before .before .wrapping-sub-u32 .result) (c .before .before .wrapping-sub-u32 .ensures))
 

@@ -1,5 +1,5 @@
 -- Refused as admits says, or else the answer of value_of. Assumes nothing.
-use mathlib.Core.Bool.{false≢true}
+use mathlib.Core.Path.{refl}
 use denote.Ref.{now}
 use borrow.Author.Needs.{needs}
 use Rattle.window.specs.Memory.{memory}
@@ -47,7 +47,7 @@ returns-2 : tie.Need-returns-2
 returns-2 c =
     let m : tie.At-match-keys2 = c .before .before .before in
     let s = m .before .before .before .before .before .before .args in
-    asked-meets (get (s .sequence)) (found (m .before)) (m .before .admits .result) (m .before .admits .ensures) (m .match .keys2) _ _ (c .reply .ensures) (λ q. absurd (false≢true q))
+    asked-meets (get (s .sequence)) (found (m .before)) (m .before .admits .result) (m .before .admits .ensures) (m .match .keys2) _ _ (c .reply .ensures) refl
     (c .before .value-of .ensures)
 
 pub get-spec : {M : Type 1} → statement M
