@@ -1,11 +1,12 @@
-// stranger and check in C's calling convention, as the calls of c_calls. They are compiled apart, so that get, which stranger uses,
-// keeps its one caller there.
+// stranger, check and take_front in C's calling convention, as the calls of c_calls. They are compiled apart, so that get, which
+// stranger uses, and the removal that take_front begins with keep their one caller there.
 use c_calls::NumberedStep;
 use c_calls::in_numbers;
 use call_check::check;
+use call_point::take_front::take_front;
 use call_read::stranger::stranger;
 use window::AdaptiveReceiverPacketWindow;
-ghost use Rattle.model.specs.Calls.{stranger as strangerOf, check as checkOf, ask};
+ghost use Rattle.model.specs.Calls.{stranger as strangerOf, check as checkOf, take-front, ask};
 ghost use Rattle.c_calls.specs.Numbers.{NumbersMeetBy};
 
 #[no_mangle]
@@ -34,4 +35,17 @@ pub extern "C" fn packet_window_check(
     ensures { λ r. ⌜ NumbersMeetBy (ask checkOf) w sequences values pages blocks r ⌝ }
 {
     in_numbers(check(w, sequences, values, pages, blocks))
+}
+
+#[no_mangle]
+pub extern "C" fn packet_window_take_front(
+    w: AdaptiveReceiverPacketWindow,
+    sequences: &mut [u32],
+    values: &mut [u32],
+    pages: &mut [u64],
+    blocks: &mut [u64],
+) -> NumberedStep
+    ensures { λ r. ⌜ NumbersMeetBy take-front w sequences values pages blocks r ⌝ }
+{
+    in_numbers(take_front(w, sequences, values, pages, blocks))
 }

@@ -28,26 +28,27 @@ release-acts b listed u l r a z =
     let c = release-retired b listed in
     still-acts c u l r a z (λ ok. release-works (windowOf u) (proper c u l r a z ok) ok b listed z)
 
--- everything removed: x is the step before the point
-module _ (c : Call) (u : State) (l : List ℕ) (x : Step) (m′ : Memory) (l′ : List ℕ) where
+-- everything removed: x is the step before the point, r the one with it
+module _ (c : Call) (u : State) (l : List ℕ) (x : Step) (m′ : Memory) (l′ : List ℕ) (r : Step) (e : r ≡ clearedStep x) where
   cleared-acts : let left = leftOf x m′ l′ in Admitted c u l left → argumentRefusal (knownBy (windowOf u .header)) c ≡ 0
       → (left .answer ≡ refused 4 → ⊥)
-      → (SoundWithPoint (windowOf u) → Works (λ n t base point. base) (windowDoes (windowOf u) c .after)) → Acts c u l (leftOf (clearedStep x) m′ l′)
+      → (SoundWithPoint (windowOf u) → Works (λ n t base point. base) (windowDoes (windowOf u) c .after)) → Acts c u l (leftOf r m′ l′)
   cleared-acts a z never works =
-      works-acts c u l (leftOf x m′ l′) (clearedStep x .window) (λ n t base point. base) a z works (λ ok. refl) (λ ok e. absurd (never e))
+      subst (λ (y : Step). Acts c u l (leftOf y m′ l′)) (sym e)
+      (works-acts c u l (leftOf x m′ l′) (clearedStep x .window) (λ n t base point. base) a z works (λ ok. refl) (λ ok q. absurd (never q)))
 
-pub clear-acts : (listed : Bool) (u : State) (l : List ℕ) (x : Step) (m′ : Memory) (l′ : List ℕ) → let left = leftOf x m′ l′ in
+pub clear-acts : (listed : Bool) (u : State) (l : List ℕ) (x : Step) (m′ : Memory) (l′ : List ℕ) (r : Step) → r ≡ clearedStep x → let left = leftOf x m′ l′ in
     Admitted (clear listed) u l left → argumentRefusal (knownBy (windowOf u .header)) (clear listed) ≡ 0 → (left .answer ≡ refused 4 → ⊥)
-    → Acts (clear listed) u l (leftOf (clearedStep x) m′ l′)
-clear-acts listed u l x m′ l′ a z never =
-    cleared-acts (clear listed) u l x m′ l′ a z never (λ ok. clear-works (windowOf u) (proper (clear listed) u l (leftOf x m′ l′) a z ok) ok listed z)
+    → Acts (clear listed) u l (leftOf r m′ l′)
+clear-acts listed u l x m′ l′ r e a z never =
+    cleared-acts (clear listed) u l x m′ l′ r e a z never (λ ok. clear-works (windowOf u) (proper (clear listed) u l (leftOf x m′ l′) a z ok) ok listed z)
 
-pub bounded-acts : (n : ℕ) (listed : Bool) (u : State) (l : List ℕ) (x : Step) (m′ : Memory) (l′ : List ℕ) → let left = leftOf x m′ l′ in
+pub bounded-acts : (n : ℕ) (listed : Bool) (u : State) (l : List ℕ) (x : Step) (m′ : Memory) (l′ : List ℕ) (r : Step) → r ≡ clearedStep x → let left = leftOf x m′ l′ in
     Admitted (clear-bounded n listed) u l left → argumentRefusal (knownBy (windowOf u .header)) (clear-bounded n listed) ≡ 0 → (left .answer ≡ refused 4 → ⊥)
-    → Acts (clear-bounded n listed) u l (leftOf (clearedStep x) m′ l′)
-bounded-acts n listed u l x m′ l′ a z never =
+    → Acts (clear-bounded n listed) u l (leftOf r m′ l′)
+bounded-acts n listed u l x m′ l′ r e a z never =
     let c = clear-bounded n listed in
-    cleared-acts c u l x m′ l′ a z never (λ ok. bounded-works (windowOf u) (proper c u l (leftOf x m′ l′) a z ok) ok n listed z)
+    cleared-acts c u l x m′ l′ r e a z never (λ ok. bounded-works (windowOf u) (proper c u l (leftOf x m′ l′) a z ok) ok n listed z)
 
 -- a range removed: x is the step before the point, in a state with the header w
 module _ (first last : ℕ) (listed : Bool) (w : AdaptiveReceiverPacketWindow) (m : Memory) (l : List ℕ) (x : Step) (m′ : Memory) (l′ : List ℕ) where

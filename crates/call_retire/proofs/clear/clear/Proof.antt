@@ -1,17 +1,15 @@
 -- Refused as admits says, or else what clear_all does. Assumes nothing.
-use mathlib.Core.Path.{refl, sym, subst}
+use mathlib.Core.Path.{refl}
 use Prim.Native.Nat.{_≤_}
 use denote.Ref.{now}
 use lib.Dec.{leb}
 use lib.ListN.{length}
 use borrow.Author.Needs.{needs}
-use Rattle.window.specs.declared.answers.Step.{Step}
 use Rattle.window.specs.Memory.{memory}
 use Rattle.window.specs.Lent.{ListsFit}
 use Rattle.model.specs.Calls.{clear}
 use Rattle.model.specs.Contract.{State}
-use Rattle.call_base.specs.Answers.{stateOf, leftOf}
-use Rattle.call_base.specs.Contracts.{Acts}
+use Rattle.call_base.specs.Answers.{stateOf}
 use Rattle.call_base.proofs.MeetsLaws.{refusal-meets, admitted-fits, admitted-places, filled-meets}
 use Rattle.call_retire.proofs.DoesLaws.{clear-does}
 use Rattle.call_retire.proofs.AcknowledgeLaws.{clear-acts}
@@ -75,8 +73,7 @@ returns-2 c =
     let s = m .before .before .before .before .before .before .before .args in
     filled-meets (clear (leb 384 (length (now (s .returned))))) (found (m .before)) (length (now (s .returned))) refl (m .before .admits .result) (m .before .admits .ensures) (m .match .keys2) (now (s .returned)) _ _ refl refl
     _ (clear-does (s .w) (memory (now (s .sequences)) (now (s .values)) (now (s .pages)) (now (s .blocks))) (leb 384 (length (now (s .returned))))) (r .clear-all .ensures)
-    (λ a z. subst (λ (y : Step). Acts (clear (leb 384 (length (now (s .returned))))) (found (m .before)) (now (s .returned)) (leftOf y _ _)) (sym (c .cleared .ensures))
-    (clear-acts (leb 384 (length (now (s .returned)))) (found (m .before)) (now (s .returned)) (r .clear-all .result) _ _ a z (r .clear-all .ensures .taken)))
+    (λ a z. clear-acts (leb 384 (length (now (s .returned)))) (found (m .before)) (now (s .returned)) (r .clear-all .result) _ _ (c .cleared .result) (c .cleared .ensures) a z (r .clear-all .ensures .taken))
 
 pub clear-spec : {M : Type 1} → statement M
 clear-spec =

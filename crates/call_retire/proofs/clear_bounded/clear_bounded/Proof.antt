@@ -1,17 +1,15 @@
 -- Refused as admits says, or else what clear_some does. Assumes nothing.
-use mathlib.Core.Path.{refl, sym, subst}
+use mathlib.Core.Path.{refl}
 use Prim.Native.Nat.{_≤_}
 use denote.Ref.{now}
 use lib.Dec.{leb}
 use lib.ListN.{length}
 use borrow.Author.Needs.{needs}
-use Rattle.window.specs.declared.answers.Step.{Step}
 use Rattle.window.specs.Memory.{memory}
 use Rattle.window.specs.Lent.{ListsFit}
 use Rattle.model.specs.Calls.{clear-bounded}
 use Rattle.model.specs.Contract.{State}
-use Rattle.call_base.specs.Answers.{stateOf, leftOf}
-use Rattle.call_base.specs.Contracts.{Acts}
+use Rattle.call_base.specs.Answers.{stateOf}
 use Rattle.call_base.proofs.MeetsLaws.{refusal-meets, admitted-fits, admitted-places, admitted-arguments, filled-meets}
 use Rattle.model.specs.Steps.{knownBy}
 use Rattle.call_base.proofs.RangeLaws.{number-taken}
@@ -78,8 +76,7 @@ returns-2 c =
     let s = m .before .before .before .before .before .before .before .args in
     filled-meets (clear-bounded (s .number) (leb 384 (length (now (s .returned))))) (found (m .before)) (length (now (s .returned))) refl (m .before .admits .result) (m .before .admits .ensures) (m .match .keys2) (now (s .returned)) _ _ refl refl
     _ (clear-bounded-does (s .w) (memory (now (s .sequences)) (now (s .values)) (now (s .pages)) (now (s .blocks))) (s .number) (leb 384 (length (now (s .returned))))) (r .clear-some .ensures)
-    (λ a z. subst (λ (y : Step). Acts (clear-bounded (s .number) (leb 384 (length (now (s .returned))))) (found (m .before)) (now (s .returned)) (leftOf y _ _)) (sym (c .cleared .ensures))
-    (bounded-acts (s .number) (leb 384 (length (now (s .returned)))) (found (m .before)) (now (s .returned)) (r .clear-some .result) _ _ a z (r .clear-some .ensures .taken)))
+    (λ a z. bounded-acts (s .number) (leb 384 (length (now (s .returned)))) (found (m .before)) (now (s .returned)) (r .clear-some .result) _ _ (c .cleared .result) (c .cleared .ensures) a z (r .clear-some .ensures .taken))
 
 pub clear-bounded-spec : {M : Type 1} → statement M
 clear-bounded-spec =
