@@ -10,13 +10,13 @@ use Rattle.line_text.specs.Lines.{fieldCount, among}
 use Rattle.line_text.specs.Contracts.{saidBy}
 use Rattle.window.specs.declared.answers.Step.{Step}
 use Rattle.window.specs.Memory.{Memory}
-use Rattle.model.specs.Calls.{Call, insert, exchange, remove, remove-range, clear, clear-bounded, release-retired, ask, get, successor-after, first-from, stranger}
+use Rattle.model.specs.Calls.{Call, insert, exchange, remove, remove-range, clear, clear-bounded, release-retired, set-base, take-front, ask, get, successor-after, first-from, stranger}
 use Rattle.model.specs.Roles.{roleOf}
 use Rattle.model.specs.Contract.{State, Meets}
 use Rattle.call_base.specs.Answers.{leftOf}
 use Rattle.line_calls.specs.declared.Called.{Called}
 use Rattle.line_calls.specs.declared.Called.the-variants.{Stepped, Unknown}
-use Rattle.line_calls.specs.Calls.{rangeCallOf, callOf, seenBy, Made}
+use Rattle.line_calls.specs.Calls.{rangeCallOf, baseCallOf, callOf, seenBy, Made}
 
 -- a letter that makes the call c
 pub made : (o : Option Call) (c : Call) (u : State) (l : List ℕ) (s : Step) (m : Memory) (l′ : List ℕ) → o ≡ some c
@@ -61,6 +61,18 @@ module _ (f : Fields) (b : Bool) where
   unfolding rangeCallOf fieldCount among
   is-none d n v c = simp (ne-eqb (f .letter) 100 d, ne-eqb (f .letter) 98 n, ne-eqb (f .letter) 118 v, ne-eqb (f .letter) 99 c)
 
+  pub is-a : f .letter ≡ 97 → baseCallOf (saidBy f) b ≡ some (set-base (f .first))
+  unfolding baseCallOf fieldCount among
+  is-a x = rw x refl
+
+  pub is-t : f .letter ≡ 116 → baseCallOf (saidBy f) b ≡ some take-front
+  unfolding baseCallOf fieldCount among
+  is-t x = rw x refl
+
+  pub is-range : (f .letter ≡ 97 → ⊥) → (f .letter ≡ 116 → ⊥) → baseCallOf (saidBy f) b ≡ rangeCallOf (saidBy f) b
+  unfolding baseCallOf fieldCount among
+  is-range a t = simp (ne-eqb (f .letter) 97 a, ne-eqb (f .letter) 116 t)
+
   pub is-i : f .letter ≡ 105 → callOf (saidBy f) b ≡ some (insert (f .first) (f .second) b)
   unfolding callOf fieldCount among
   is-i x = rw x refl
@@ -89,10 +101,10 @@ module _ (f : Fields) (b : Bool) where
   unfolding callOf fieldCount among
   is-q x = rw x refl
 
-  pub is-range : (f .letter ≡ 105 → ⊥) → (f .letter ≡ 103 → ⊥) → (f .letter ≡ 114 → ⊥) → (f .letter ≡ 115 → ⊥) → (f .letter ≡ 102 → ⊥) → (f .letter ≡ 101 → ⊥)
-      → (f .letter ≡ 113 → ⊥) → callOf (saidBy f) b ≡ rangeCallOf (saidBy f) b
+  pub is-base : (f .letter ≡ 105 → ⊥) → (f .letter ≡ 103 → ⊥) → (f .letter ≡ 114 → ⊥) → (f .letter ≡ 115 → ⊥) → (f .letter ≡ 102 → ⊥) → (f .letter ≡ 101 → ⊥)
+      → (f .letter ≡ 113 → ⊥) → callOf (saidBy f) b ≡ baseCallOf (saidBy f) b
   unfolding callOf fieldCount among
-  is-range i g r s t e q =
+  is-base i g r s t e q =
       simp (
         ne-eqb (f .letter) 105 i,
         ne-eqb (f .letter) 103 g,

@@ -1,6 +1,7 @@
 -- Which call a line makes, by its letter and fields. Document 01, 'The line program': "In this order they call new, insert, get, remove,
 -- successor_after, first_from, exchange, remove_range, stranger, clear_bounded, release_retired, clear, and iter from 0 until done."
--- Definitions only. Assumes nothing.
+-- Document 02, S-1: "The line programs gain a (sequence), which sets the base .., and t (no field), which takes the front". Definitions
+-- only. Assumes nothing.
 use mathlib.Core.Path.{_≡_}
 use mathlib.Core.Bool.{Bool, true, cond}
 use mathlib.Core.Option.{Option, none, some}
@@ -14,7 +15,7 @@ use Rattle.window.specs.declared.AdaptiveReceiverPacketWindow.{AdaptiveReceiver
 use Rattle.window.specs.declared.answers.Step.{Step}
 use Rattle.window.specs.Memory.{Memory}
 use Rattle.window.specs.Lent.{Lent, foundIn, leftIn}
-use Rattle.model.specs.Calls.{Call, insert, exchange, remove, remove-range, clear, clear-bounded, release-retired, ask, get, successor-after, first-from, stranger}
+use Rattle.model.specs.Calls.{Call, insert, exchange, remove, remove-range, clear, clear-bounded, release-retired, set-base, take-front, ask, get, successor-after, first-from, stranger}
 use Rattle.model.specs.Roles.{roleOf}
 use Rattle.model.specs.Contract.{State, Meets}
 use Rattle.call_base.specs.Answers.{stateOf, leftOf}
@@ -39,6 +40,12 @@ rangeCallOf l listed =
     (cond (eqb (l .letter) 118) (some (release-retired (first l) listed))
     (cond (eqb (l .letter) 99) (some (clear listed)) none)))
 
+-- a and t, then those
+unfoldable pub baseCallOf : Line → Bool → Option Call
+baseCallOf l listed =
+    cond (eqb (l .letter) 97) (some (set-base (first l)))
+    (cond (eqb (l .letter) 116) (some take-front) (rangeCallOf l listed))
+
 -- i, g, r, s, f, e, q, then those; none for n and l, which make no one call, and for any other letter
 unfoldable pub callOf : Line → Bool → Option Call
 callOf l listed =
@@ -48,7 +55,7 @@ callOf l listed =
     (cond (eqb (l .letter) 115) (some (ask (successor-after (first l))))
     (cond (eqb (l .letter) 102) (some (ask (first-from (first l))))
     (cond (eqb (l .letter) 101) (some (exchange (first l) (second l)))
-    (cond (eqb (l .letter) 113) (some (ask (stranger (first l) (second l)))) (rangeCallOf l listed)))))))
+    (cond (eqb (l .letter) 113) (some (ask (stranger (first l) (second l)))) (baseCallOf l listed)))))))
 
 -- what a line asks for: n new, l "iter from 0 until done", another letter its call; nothing for a letter that has none
 pub data Command : Type 0 where

@@ -4,6 +4,8 @@ pub mod list;
 use call_point::exchange::exchange;
 use call_point::insert::insert;
 use call_point::remove::remove;
+use call_point::set_base::set_base;
+use call_point::take_front::take_front;
 use call_read::first_from;
 use call_read::get;
 use call_read::stranger::stranger;
@@ -16,7 +18,7 @@ use line_text::Fields;
 use window::AdaptiveReceiverPacketWindow;
 use window::answers::Step;
 ghost use Rattle.line_text.specs.Contracts.{saidBy};
-ghost use Rattle.line_calls.specs.Calls.{rangeCallOf, callOf, MadeBy};
+ghost use Rattle.line_calls.specs.Calls.{rangeCallOf, baseCallOf, callOf, MadeBy};
 
 // What a call did; Unknown for a letter that has none.
 pub enum Called {
@@ -73,6 +75,27 @@ pub fn range_call(
     }
 }
 
+// a and t: the calls that move the base; then those.
+pub fn base_call(
+    w: AdaptiveReceiverPacketWindow,
+    sequences: &mut [u32],
+    values: &mut [u32],
+    pages: &mut [u64],
+    blocks: &mut [u64],
+    returned: &mut [u32],
+    f: Fields,
+) -> Called
+    ensures { λ r. ⌜ MadeBy (baseCallOf (saidBy f)) w sequences values pages blocks returned r ⌝ }
+{
+    let first = f.first;
+    let letter = f.letter;
+    match letter {
+        b'a' => Called::Stepped(set_base(w, sequences, values, pages, blocks, first)),
+        b't' => Called::Stepped(take_front(w, sequences, values, pages, blocks)),
+        _ => range_call(w, sequences, values, pages, blocks, returned, f),
+    }
+}
+
 // The call of a letter other than n and l.
 pub fn call(
     w: AdaptiveReceiverPacketWindow,
@@ -105,6 +128,6 @@ pub fn call(
         b'f' => Called::Stepped(first_from(w, sequences, values, pages, blocks, first)),
         b'e' => Called::Stepped(exchange(w, sequences, values, pages, blocks, first, second)),
         b'q' => Called::Stepped(stranger(w, sequences, values, pages, blocks, first, second)),
-        _ => range_call(w, sequences, values, pages, blocks, returned, f),
+        _ => base_call(w, sequences, values, pages, blocks, returned, f),
     }
 }

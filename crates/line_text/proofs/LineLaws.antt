@@ -92,7 +92,7 @@ pub unknown : (b : ℕ) → 3 < fieldCountOf b → fieldCount b ≡ none
 unfolding fieldCount
 unknown b l =
     none-of-four (among b (110 ∷ [])) (among b (105 ∷ 101 ∷ 100 ∷ 113 ∷ []))
-    (among b (103 ∷ 114 ∷ 115 ∷ 102 ∷ 98 ∷ 118 ∷ [])) (among b (99 ∷ 108 ∷ [])) l
+    (among b (103 ∷ 114 ∷ 115 ∷ 102 ∷ 98 ∷ 118 ∷ 97 ∷ [])) (among b (99 ∷ 108 ∷ 116 ∷ [])) l
 
 -- the letter: what is after it decides
 joined-long : (b c : ℕ) (ps : List (List ℕ)) → ofParts (joined b (joined c ps)) ≡ none

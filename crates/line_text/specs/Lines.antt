@@ -47,14 +47,14 @@ among b [] = false
 among b (c ∷ cs) = cond (eqb b c) true (among b cs)
 
 -- "Command letters: n (window_size, N, demote_at), i (sequence, value), g, r, s, f (sequence), e (sequence, value), d, q (first,
--- last), b, v (number), c, l (no field)": how many fields the letter takes; none for another letter. In bytes: n 110, i 105, g 103,
--- r 114, s 115, f 102, e 101, d 100, q 113, b 98, v 118, c 99, l 108.
+-- last), b, v (number), c, l (no field)"; document 02, S-1: "a (sequence) .. and t (no field)": how many fields the letter takes; none
+-- for another letter. In bytes: n 110, i 105, g 103, r 114, s 115, f 102, e 101, d 100, q 113, b 98, v 118, c 99, l 108, a 97, t 116.
 unfoldable pub fieldCount : ℕ → Option ℕ
 fieldCount b =
     cond (among b (110 ∷ [])) (some 3)
     (cond (among b (105 ∷ 101 ∷ 100 ∷ 113 ∷ [])) (some 2)
-    (cond (among b (103 ∷ 114 ∷ 115 ∷ 102 ∷ 98 ∷ 118 ∷ [])) (some 1)
-    (cond (among b (99 ∷ 108 ∷ [])) (some 0)
+    (cond (among b (103 ∷ 114 ∷ 115 ∷ 102 ∷ 98 ∷ 118 ∷ 97 ∷ [])) (some 1)
+    (cond (among b (99 ∷ 108 ∷ 116 ∷ [])) (some 0)
     none)))
 
 -- a call: its letter and its fields

@@ -35,8 +35,8 @@ pub fn field_count(letter: u8) -> usize
     match letter {
         b'n' => 3,
         b'i' | b'e' | b'd' | b'q' => 2,
-        b'g' | b'r' | b's' | b'f' | b'b' | b'v' => 1,
-        b'c' | b'l' => 0,
+        b'g' | b'r' | b's' | b'f' | b'b' | b'v' | b'a' => 1,
+        b'c' | b'l' | b't' => 0,
         _ => 4,
     }
 }

@@ -1,6 +1,6 @@
 use mathlib.Core.Path.{refl}
 use borrow.Author.Needs.{needs}
-use Rattle.line_calls.proofs.MakeLaws.{made, made-listed, made-same, is-i, is-g, is-r, is-s, is-f, is-e, is-q, is-range}
+use Rattle.line_calls.proofs.MakeLaws.{made, made-listed, made-same, is-i, is-g, is-r, is-s, is-f, is-e, is-q, is-base}
 use Rattle.line_calls.proofs.call.Statement.{statement}
 use Rattle.line_calls.proofs.call.Tie as tie
 use Rattle.line_calls.proofs.call.Reads as reads
@@ -12,7 +12,7 @@ use Rattle.call_read.proofs.first_from.Reads as first-from-reads
 use Rattle.call_read.proofs.get.Reads as get-reads
 use Rattle.call_read.proofs.stranger.stranger.Reads as stranger-reads
 use Rattle.call_read.proofs.successor_after.Reads as successor-after-reads
-use Rattle.line_calls.proofs.range_call.Reads as range-call-reads
+use Rattle.line_calls.proofs.base_call.Reads as base-call-reads
 
 -- src/lib.rt:89:33
 insert-requires : tie.Need-insert-requires
@@ -43,8 +43,8 @@ stranger-requires : tie.Need-stranger-requires
 stranger-requires c κs = search needs
 
 -- src/lib.rt:105:14
-range-call-requires : tie.Need-range-call-requires
-range-call-requires c κs = search needs
+base-call-requires : tie.Need-base-call-requires
+base-call-requires c κs = search needs
 
 -- src/lib.rt:74:1
 same-length : tie.Need-same-length
@@ -229,8 +229,8 @@ returns-8 : tie.Need-returns-8
 returns-8 c =
     let k = c .before .before .before .before .before .before .before .before .before .before .before .before .before .before .before .before .match .rest in
     made-same _ _ _ _ _ _ _
-    (is-range _ _ (k .0 .0 .0 .0 .0 .0 .1) (k .0 .0 .0 .0 .0 .1) (k .0 .0 .0 .0 .1) (k .0 .0 .0 .1) (k .0 .0 .1) (k .0 .1) (k .1))
-    (c .before .before .before .before .before .before .before .before .before .before .range-call .ensures)
+    (is-base _ _ (k .0 .0 .0 .0 .0 .0 .1) (k .0 .0 .0 .0 .0 .1) (k .0 .0 .0 .0 .1) (k .0 .0 .0 .1) (k .0 .0 .1) (k .0 .1) (k .1))
+    (c .before .before .before .before .before .before .before .before .before .before .base-call .ensures)
 
 pub call-spec : {M : Type 1} → statement M
 call-spec =
@@ -243,7 +243,7 @@ call-spec =
     first-from-requires
     exchange-requires
     stranger-requires
-    range-call-requires
+    base-call-requires
     same-length
     same-length-2
     same-length-3
