@@ -21,7 +21,7 @@ use Rattle.model.specs.Calls.{Answer, pair, done, ask, iter}
 use Rattle.model.specs.Table.{Pair, pairOf}
 use Rattle.model.specs.Window.{Window, capacityOf, isReached, cellPair, iterStep, andThen, pairsFrom, livePairs}
 use Rattle.model.specs.Steps.{windowDoes}
-use Rattle.model.specs.Sound.{Sound}
+use Rattle.model.specs.Sound.{SoundWithPoint}
 use Rattle.model.specs.Contract.{State, windowOf, Left, lengthsFit, Meets}
 use Rattle.call_base.specs.Answers.{answerOf}
 use Rattle.call_read.proofs.IterLaws.{capacity-is}
@@ -30,7 +30,7 @@ use Rattle.line_calls.specs.List.{sequencesOf, Lists}
 -- ---- one step of iter
 
 -- its answer, on a sound state whose lists fit
-pub asked : (u : State) (n : ℕ) (r : Left) → Meets (ask (iter n)) u [] r → lengthsFit u ≡ true → Sound (windowOf u) → r .answer ≡ iterStep (windowOf u) n
+pub asked : (u : State) (n : ℕ) (r : Left) → Meets (ask (iter n)) u [] r → lengthsFit u ≡ true → SoundWithPoint (windowOf u) → r .answer ≡ iterStep (windowOf u) n
 unfolding windowDoes
 asked u n r m fit ok = m .sound (rw fit refl) ok .answer
 
@@ -123,7 +123,7 @@ pub record SoFar (u : State) (ss₀ vs₀ ss vs : List ℕ) (cell count : ℕ) :
   pub values-long : length vs ≡ length vs₀
   pub sequences-fit : count ≤ length ss₀
   pub values-fit : count ≤ length vs₀
-  pub sound : lengthsFit u ≡ true → Sound (windowOf u) → Part (windowOf u) ss vs cell count
+  pub sound : lengthsFit u ≡ true → SoundWithPoint (windowOf u) → Part (windowOf u) ss vs cell count
 
 pub start : (u : State) (ss vs : List ℕ) → SoFar u ss vs ss vs 0 0
 start u ss vs = record {
@@ -158,7 +158,7 @@ module _ (u : State) (ss₀ vs₀ ss vs : List ℕ) (cell count : ℕ) (g : SoFa
 
   -- ---- the ways out
 
-  finish : (lengthsFit u ≡ true → Sound (windowOf u) → capacityOf (windowOf u) ≤ length ss₀ → capacityOf (windowOf u) ≤ length vs₀
+  finish : (lengthsFit u ≡ true → SoundWithPoint (windowOf u) → capacityOf (windowOf u) ≤ length ss₀ → capacityOf (windowOf u) ≤ length vs₀
       → pairsFrom (capacityOf (windowOf u) - count) (windowOf u) cell ≡ []) → Lists u ss₀ vs₀ count ss vs
   finish none = record {
     sound = λ fit ok a b.

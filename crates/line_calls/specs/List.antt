@@ -10,7 +10,7 @@ use Rattle.window.specs.Memory.{capacity}
 use Rattle.window.specs.Lent.{Lent, foundIn}
 use Rattle.model.specs.Table.{Pair}
 use Rattle.model.specs.Window.{Window, livePairs}
-use Rattle.model.specs.Sound.{Sound}
+use Rattle.model.specs.Sound.{SoundWithPoint}
 use Rattle.model.specs.Contract.{State, windowOf, lengthsFit}
 use Rattle.call_base.specs.Answers.{stateOf}
 
@@ -30,7 +30,7 @@ pub record Listed (w : Window) (r : ℕ) (ss vs : List ℕ) : Type 0 where
 -- what a listing into ss and vs leaves in them, and its number r: the live pairs of a sound state whose lists fit, in lists with a place
 -- for every cell; on every state no more than there are places
 pub record Lists (u : State) (ss vs : List ℕ) (r : ℕ) (ss′ vs′ : List ℕ) : Type 0 where
-  pub sound : lengthsFit u ≡ true → Sound (windowOf u) → capacity (u .header .«window_size») ≤ length ss
+  pub sound : lengthsFit u ≡ true → SoundWithPoint (windowOf u) → capacity (u .header .«window_size») ≤ length ss
       → capacity (u .header .«window_size») ≤ length vs → Listed (windowOf u) r ss′ vs′
   pub sequences-fit : r ≤ length ss
   pub values-fit : r ≤ length vs

@@ -27,7 +27,7 @@ use Rattle.model.specs.Roles.{roleOf}
 use Rattle.model.specs.Window.{Window, livePairs}
 use Rattle.model.specs.Steps.{Effect, windowStep}
 use Rattle.model.specs.Contract.{State, windowOf, lengthsFit, Meets}
-use Rattle.model.specs.Sound.{Sound}
+use Rattle.model.specs.Sound.{SoundWithPoint}
 use Rattle.model.specs.Heads.{Began}
 use Rattle.model.proofs.NewLaws.{began-accepted}
 use Rattle.page_base.proofs.DecodeLaws.{header-at}

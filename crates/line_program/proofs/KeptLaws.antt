@@ -16,14 +16,14 @@ use Rattle.window.specs.New.{fresh, cleared}
 use Rattle.model.specs.Calls.{Call}
 use Rattle.model.specs.Window.{Page, Block, Window, sizeOf, pageAt, blockAt, decode, cellsAt, emptyPage, freshWindow}
 use Rattle.model.specs.Steps.{windowStep}
-use Rattle.model.specs.Sound.{Sound}
+use Rattle.model.specs.Sound.{SoundWithPoint}
 use Rattle.model.specs.Contract.{State, windowOf, Left, lengthsFit, SamePast, Does, Meets}
 use Rattle.model.specs.Heads.{Began}
 use Rattle.model.proofs.NewLaws.{new-window, began-accepted, began-sound, began-fits}
 use Rattle.page_base.proofs.DecodeLaws.{header-at}
-use Rattle.laws_soundness.specs.Change.{Limits, limitsOf}
+use Rattle.laws_soundness.specs.Change.{Sizes, sizesOf}
 use Rattle.laws_soundness.proofs.ProperLaws.{proper-decode}
-use Rattle.laws_soundness.proofs.CallLaws.{call-limits, sound-call}
+use Rattle.laws_soundness.proofs.CallLaws.{call-sizes, sound-call}
 use Rattle.laws_refinement.proofs.StateLaws.{meets-does, fits-same}
 use Rattle.call_base.specs.Answers.{stateOf}
 use Rattle.line_program.specs.Program.{keptOf, atStart, windowIn, withWindow, withNew}
@@ -113,24 +113,24 @@ module _ (u v : State) (s : SamePast (v .header .«window_size») (u .memory) (v
 
 -- ---- a call
 
-module _ (c : Call) (u : State) (l : List ℕ) (r : Left) (t : Meets c u l r) (fit : lengthsFit u ≡ true) (ok : Sound (windowOf u)) where
+module _ (c : Call) (u : State) (l : List ℕ) (r : Left) (t : Meets c u l r) (fit : lengthsFit u ≡ true) (ok : SoundWithPoint (windowOf u)) where
   pub does : Does c (windowOf u) r
   does = meets-does c u l r t fit ok
 
-  same-limits : limitsOf (r .state .header) ≡ limitsOf (u .header)
-  same-limits =
-      ap limitsOf (sym (header-at (r .state .header) (r .state .memory))) ∙ ap (λ (w : Window). limitsOf (w .header)) (does .window)
-      ∙ call-limits (windowOf u) (proper-decode (u .header) (u .memory) ok) c ∙ ap limitsOf (header-at (u .header) (u .memory))
+  same-sizes : sizesOf (r .state .header) ≡ sizesOf (u .header)
+  same-sizes =
+      ap sizesOf (sym (header-at (r .state .header) (r .state .memory))) ∙ ap (λ (w : Window). sizesOf (w .header)) (does .window)
+      ∙ call-sizes (windowOf u) (proper-decode (u .header) (u .memory) (ok .sound)) c ∙ ap sizesOf (header-at (u .header) (u .memory))
 
   pub call-kept : Kept (r .state)
   call-kept = record {
-    fit = λ h. fits-same (u .header) (r .state .header) (u .memory) (r .state .memory) same-limits (t .lengths) ∙ fit;
-    sound = λ h. subst Sound (sym (does .window)) (sound-call (u .header) (u .memory) c ok);
+    fit = λ h. fits-same (u .header) (r .state .header) (u .memory) (r .state .memory) same-sizes (t .lengths) ∙ fit;
+    sound = λ h. subst SoundWithPoint (sym (does .window)) (sound-call (u .header) (u .memory) c ok);
   }
 
   pub call-after : keptOf (r .state) ≡ withWindow (keptOf u) (windowStep (windowIn (keptOf u)) c .after)
   call-after =
-      let past = subst (λ (size : ℕ). SamePast size (u .memory) (r .state .memory)) (ap (λ (x : Limits). x .size) (sym same-limits)) (t .past-memory) in
+      let past = subst (λ (size : ℕ). SamePast size (u .memory) (r .state .memory)) (ap (λ (x : Sizes). x .size) (sym same-sizes)) (t .past-memory) in
       kept-with u (r .state) past ∙ ap (withWindow (keptOf u)) (does .window ∙ ap (λ (w : Window). windowStep w c .after) (sym (window-in u)))
 
 -- ---- n

@@ -13,7 +13,7 @@ use Rattle.window.specs.declared.AdaptiveReceiverPacketWindow.{AdaptiveReceiver
 use Rattle.window.specs.Memory.{memory}
 use Rattle.window.specs.Lent.{Lent, foundIn, leftIn}
 use Rattle.model.specs.Window.{Window}
-use Rattle.model.specs.Sound.{Sound}
+use Rattle.model.specs.Sound.{SoundWithPoint}
 use Rattle.model.specs.Contract.{State, windowOf, lengthsFit}
 use Rattle.call_base.specs.Answers.{stateOf}
 use Rattle.line_faults.specs.Faults.{faultOf}
@@ -26,7 +26,7 @@ use Rattle.line_program.specs.Notes.{noted, notedLines}
 -- what the program keeps between lines: once an n is accepted, a sound window with lists as long as it names them
 pub record Kept (u : State) : Type 0 where
   pub fit : 0 < u .header .«window_size» → lengthsFit u ≡ true
-  pub sound : 0 < u .header .«window_size» → Sound (windowOf u)
+  pub sound : 0 < u .header .«window_size» → SoundWithPoint (windowOf u)
 
 -- as a signature says it, of lists as a function finds them
 abbrev pub KeptIn : AdaptiveReceiverPacketWindow → (sequences values pages blocks : RefT (List ℕ)) → Type 0
