@@ -587,7 +587,7 @@ def true_run():
     calls, answers = ([line.replace(' ', '\t') for line in text.split(';')] for text in (TRUE_CALLS, TRUE_ANSWERS))
     states = [None] * (len(answers) - 1) + [TRUE_WORDS]
     run = runs_of('selftest', [call.encode() for call in calls], answers, states)[0]
-    choose([run])
+    run.pieces = [run.entries]
     return run
 
 
