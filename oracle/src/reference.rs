@@ -107,7 +107,8 @@ impl<const N: usize> Window for Based<N> {
     }
 
     fn header(&self) -> WindowHeader {
-        self.window.header(self.base, point(&self.window, self.base))
+        let point = point(&self.window, self.base);
+        self.window.header(self.base, point)
     }
 
     fn counts(&self) -> [u64; 4] {

@@ -77,7 +77,8 @@ enum Work {
     /// Packets inserted in order but those that are lost, and the front taken when it is this many behind; where it is absent, the base is
     /// set to the next one. With `point`, that is asked for after each packet.
     Front { lag: u32, lost: fn(u32) -> bool, point: bool },
-    /// So many sequences live after the base, which is inserted and removed again and again. With `point`, that is asked for after each call.
+    /// So many sequences live after the base, which is inserted and removed again and again. With `point`, that is asked for after each
+    /// call.
     Hole { live: u32, point: bool },
 }
 

@@ -2,7 +2,8 @@
 //!
 //! One line for each call in each window: the series, the call, the window's size, the live values, then the median of the
 //! rounds in nanoseconds a call, of the library (insert, remove and release_retired by their host forms) and of the source
-//! with each call behind a call boundary, where a point is looked for by a get of each sequence from the base on. What the calls answered is summed, and the sums must be equal.
+//! with each call behind a call boundary, where a point is looked for by a get of each sequence from the base on. What the
+//! calls answered is summed, and the sums must be equal.
 
 /// The source's work counters stay out.
 macro_rules! count_work {

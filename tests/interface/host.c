@@ -43,10 +43,11 @@ static unsigned given[MOST], refused[MOST];
 /* The furthest that a point was from its base. */
 static uint32_t furthest;
 
-static packet_window_outcome keep(packet_window_step step)
+/* What a call by value gave, as a host form gives it: the window keeps the header. */
+static packet_window_outcome keep(window *w, packet_window_step step)
 {
     packet_window_outcome outcome;
-    by_value.header = step.window;
+    w->header = step.window;
     outcome.answer = step.answer;
     outcome.count = step.count;
     return outcome;
@@ -64,51 +65,39 @@ static int same(packet_window_outcome a, packet_window_outcome b)
 static int insert(uint32_t sequence, uint32_t store, size_t places)
 {
     packet_window_outcome a = packet_window_host_insert(&host.header, LISTS(host), host.returned, places, sequence, store);
-    return same(a, keep(packet_window_insert(by_value.header, LISTS(by_value), by_value.returned, places, sequence, store)));
+    return same(a, keep(&by_value, packet_window_insert(by_value.header, LISTS(by_value), by_value.returned, places, sequence, store)));
 }
 
 static int remove_one(uint32_t sequence)
 {
     packet_window_outcome a = packet_window_host_remove(&host.header, LISTS(host), sequence);
-    return same(a, keep(packet_window_remove(by_value.header, LISTS(by_value), sequence)));
+    return same(a, keep(&by_value, packet_window_remove(by_value.header, LISTS(by_value), sequence)));
 }
 
 static int release_retired(uint32_t budget)
 {
     packet_window_outcome a = packet_window_host_release_retired(&host.header, LISTS(host), LIST(host.returned), budget);
-    return same(a, keep(packet_window_release_retired(by_value.header, LISTS(by_value), LIST(by_value.returned), budget)));
+    return same(a, keep(&by_value, packet_window_release_retired(by_value.header, LISTS(by_value), LIST(by_value.returned), budget)));
 }
 
 /* A range is removed by value on both, so that there is something to release. */
 static int remove_range(uint32_t first, uint32_t last)
 {
-    packet_window_step step = packet_window_remove_range(host.header, LISTS(host), LIST(host.returned), first, last);
-    packet_window_outcome a;
-    host.header = step.window;
-    a.answer = step.answer;
-    a.count = step.count;
-    return same(a, keep(packet_window_remove_range(by_value.header, LISTS(by_value), LIST(by_value.returned), first, last)));
+    packet_window_outcome a = keep(&host, packet_window_remove_range(host.header, LISTS(host), LIST(host.returned), first, last));
+    return same(a, keep(&by_value, packet_window_remove_range(by_value.header, LISTS(by_value), LIST(by_value.returned), first, last)));
 }
 
 /* The base is set, and the front taken, by value on both, so that the host forms have a point to keep. */
 static int set_base(uint32_t base)
 {
-    packet_window_step step = packet_window_set_base(host.header, LISTS(host), base);
-    packet_window_outcome a;
-    host.header = step.window;
-    a.answer = step.answer;
-    a.count = step.count;
-    return same(a, keep(packet_window_set_base(by_value.header, LISTS(by_value), base)));
+    packet_window_outcome a = keep(&host, packet_window_set_base(host.header, LISTS(host), base));
+    return same(a, keep(&by_value, packet_window_set_base(by_value.header, LISTS(by_value), base)));
 }
 
 static int take_front(void)
 {
-    packet_window_step step = packet_window_take_front(host.header, LISTS(host));
-    packet_window_outcome a;
-    host.header = step.window;
-    a.answer = step.answer;
-    a.count = step.count;
-    return same(a, keep(packet_window_take_front(by_value.header, LISTS(by_value))));
+    packet_window_outcome a = keep(&host, packet_window_take_front(host.header, LISTS(host)));
+    return same(a, keep(&by_value, packet_window_take_front(by_value.header, LISTS(by_value))));
 }
 
 /* The header's point is the first sequence from the base that packet_window_get does not find. */

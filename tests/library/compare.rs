@@ -1,9 +1,9 @@
 //! The static library against the source, in one process.
 //!
 //! `compare FIRST LAST CALLS [--large|--small]`: one list of calls for each seed, with more of stranger's among them. Each call is
-//! made on the source and on the library: the answer, the returned values in order, the header with its base and point, all block words, and words and
-//! cells in use of the pages that the call may have changed are compared after it, those of all pages after each call on windows
-//! up to 512 and now and then on larger ones. Half of the calls that have a host form are made by it.
+//! made on the source and on the library: the answer, the returned values in order, the header with its base and point, all block
+//! words, and words and cells in use of the pages that the call may have changed are compared after it, those of all pages after each
+//! call on windows up to 512 and now and then on larger ones. Half of the calls that have a host form are made by it.
 
 /// The source's work counters stay out.
 macro_rules! count_work {
@@ -67,8 +67,8 @@ impl Both {
                 let base = self.source.header().base;
                 [base, base.wrapping_sub(1)].map(|sequence| sequence as usize / 64 % count).to_vec()
             }
-            Call::New { .. } | Call::Get(_) | Call::SuccessorAfter(_) | Call::FirstFrom(_) | Call::Stranger { .. } | Call::Iter => Vec::new(),
-            Call::SetBase(_) => Vec::new(),
+            Call::New { .. } | Call::Get(_) | Call::SuccessorAfter(_) | Call::FirstFrom(_) => Vec::new(),
+            Call::Stranger { .. } | Call::Iter | Call::SetBase(_) => Vec::new(),
         }
     }
 
@@ -145,7 +145,7 @@ fn run(seeds: RangeInclusive<u64>, calls: u32, options: Options) -> Result<Strin
     }
     let Counts { compared, hosted, refused, strangers, fronts, reached } = counts;
     if hosted == 0 || refused == 0 || strangers == 0 || fronts == 0 || reached == 0 {
-        return Err("no host form was compared, no short list refused, no stranger found, no front taken, or no point past its base".to_string());
+        return Err("no host form compared, no short list refused, no stranger found, no front taken or no point past its base".to_string());
     }
     Ok(format!(
         "{compared} calls as the source, {hosted} by host forms, {refused} with a short list refused 6, {strangers} strangers found, \

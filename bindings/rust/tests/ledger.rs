@@ -1,5 +1,5 @@
-//! Random calls against the plain table of document 01 with document 02's base. Values are numbers of packet stores out of a pool: a store that comes back
-//! must be out, so each comes back exactly once.
+//! Random calls against the plain table of document 01 with document 02's base. Values are numbers of packet stores out of a pool: a
+//! store that comes back must be out, so each comes back exactly once.
 
 use packet_window::*;
 use std::collections::{BTreeMap, HashSet};
