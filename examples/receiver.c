@@ -1,5 +1,6 @@
 /*
- * A receiver: packets come out of order, a late range is dropped, retired stores are released within a budget for each visit.
+ * A receiver: packets come out of order, are acknowledged by the window's point and taken from its front; a late range is dropped, and
+ * retired stores are released within a budget for each visit.
  *
  *     cc -std=c99 -Iinclude -o receiver examples/receiver.c target/libpacket_window.a
  *
@@ -88,6 +89,18 @@ static void expect(packet_window_answer answer, uint32_t code)
         fail("answer with code", answer.code);
 }
 
+/* The packet to be shown next. Those before it are no longer waited for. */
+static void begin_at(uint32_t sequence)
+{
+    expect(keep(packet_window_set_base(window, LISTS, sequence)), PACKET_WINDOW_DONE);
+}
+
+/* The number that an acknowledgement carries: the first packet, from the one to be shown next, that has not come. */
+static uint32_t acknowledged(void)
+{
+    return window.point;
+}
+
 /* A packet has come: its bytes go into a free store, and the store into the window. */
 static void receive(uint32_t sequence)
 {
@@ -109,9 +122,9 @@ static void receive(uint32_t sequence)
 }
 
 /* The next packet in order is shown, and its store is free again; 0 if it has not come. */
-static int deliver(uint32_t sequence)
+static int deliver(void)
 {
-    packet_window_answer answer = keep(packet_window_remove(window, LISTS, sequence));
+    packet_window_answer answer = keep(packet_window_take_front(window, LISTS));
     if (answer.code == PACKET_WINDOW_ABSENT)
         return 0;
     expect(answer, PACKET_WINDOW_FOUND);
@@ -152,8 +165,8 @@ static uint32_t live_pairs(void)
 
 static void report(const char *what, uint32_t number)
 {
-    printf("%s %u: %u live, %u retired, %u stores out\n", what, (unsigned)number, (unsigned)window.len, (unsigned)window.retired_held,
-           (unsigned)stores_out());
+    printf("%s %u: %u live, %u retired, %u stores out; acknowledged to %u\n", what, (unsigned)number, (unsigned)window.len,
+           (unsigned)window.retired_held, (unsigned)stores_out(), (unsigned)acknowledged());
     if (stores_out() != window.len + window.retired_held || live_pairs() != window.len)
         fail("the ledger and the window differ", stores_out());
     expect(packet_window_check(window, LISTS).answer, PACKET_WINDOW_DONE);
@@ -172,6 +185,7 @@ int main(void)
     if (packet_window_version() != PACKET_WINDOW_VERSION)
         fail("the library is of another version than the header:", packet_window_version());
     expect(keep(packet_window_new(LISTS, WINDOW_SIZE, SPARSE_CELLS, DEMOTE_AT)), PACKET_WINDOW_DONE);
+    begin_at(sequence_of(0));
 
     for (i = 0; i < PACKETS; i++) {
         uint32_t packet = i * 7 % PACKETS; /* each once, out of order */
@@ -182,11 +196,15 @@ int main(void)
     receive(sequence_of(PACKET_WINDOW_CAPACITY(WINDOW_SIZE))); /* too early: packet 0 has its position */
     report("received, of packets", PACKETS);
 
-    for (i = 0; deliver(sequence_of(i)); i++)
+    for (i = 0; deliver(); i++)
         ;
     report("delivered in order", i);
+    if (sequence_of(i) != acknowledged())
+        fail("another packet is acknowledged than the first that has not come", acknowledged());
 
     report("dropped late", drop_late(sequence_of(i), sequence_of(799)));
+    begin_at(sequence_of(800)); /* the sender need not send them again */
+    report("begun again at packet", 800);
 
     for (i = PACKETS; window.retired_held != 0; i++) { /* packets keep coming; a packet for a retired page releases that page */
         receive(sequence_of(i));

@@ -33,12 +33,17 @@
  *                                 returned, PACKET_WINDOW_RETURN_PLACES, sequence, store);
  *     header = step.window;
  *
- * Its counts may be read (len, retired_held, promotions, demotions); no field is to be written by the caller. The host forms of insert,
- * remove and release_retired, at the end, take the caller's header by its address instead and update it in place.
+ * Its counts, base and point may be read (len, retired_held, promotions, demotions); no field is to be written by the caller. The host
+ * forms of insert, remove and release_retired, at the end, take the caller's header by its address instead and update it in place.
+ *
+ * ACKNOWLEDGE POINT. The header's base is 0 in a new window; packet_window_set_base sets it, and packet_window_take_front moves it by
+ * one. Its point is the first sequence from the base, in 31-bit circular order, that is not live (packet_window_get does not find it), or
+ * base + window_size if the window_size sequences from the base are all live; sums are modulo 2^31. Every call leaves it right, refused
+ * ones too. It is the number that an acknowledgement carries.
  *
  * VALUES HANDED BACK. The window gives each accepted value back exactly once:
- *     - in answer.first, when packet_window_insert answers PACKET_WINDOW_REPLACED, and when packet_window_exchange or
- *       packet_window_remove answers PACKET_WINDOW_FOUND;
+ *     - in answer.first, when packet_window_insert answers PACKET_WINDOW_REPLACED, and when packet_window_exchange,
+ *       packet_window_remove or packet_window_take_front answers PACKET_WINDOW_FOUND;
  *     - in the first `count` places of the return list. Look there after each call that takes one, also after a refusal.
  * Accepted are the values of packet_window_insert unless it is refused, and of packet_window_exchange if it answers
  * PACKET_WINDOW_FOUND. A value that is not accepted stays with the caller.
@@ -53,8 +58,9 @@
  * UNSOUND STATES. A state that came from packet_window_new and from calls alone is sound: each call keeps it so. If other code, or a
  * fault of the memory, wrote the header or the lists, the state may be unsound. packet_window_check says whether it is; it cannot see a
  * change that leaves a sound state, such as another value in a cell. On an unsound state every other call still ends, stays inside the
- * lists, writes nothing past their named lengths and nothing past `count` in the return list, and refuses 5, 6 and 8 as always. Beyond
- * that its answer (4 included), the header and the lists are free. It may be refused 7, with a count of values that it has handed back.
+ * lists, writes nothing past their named lengths and nothing past `count` in the return list, and refuses 5, 6, 8 and 9 as always.
+ * Beyond that its answer (4 included), the header and the lists are free. It may be refused 7, with a count of values that it has handed
+ * back.
  */
 #ifndef PACKET_WINDOW_H
 #define PACKET_WINDOW_H
@@ -130,6 +136,10 @@ typedef struct packet_window_header {
     uint32_t retired_held;
     /* The page that packet_window_release_retired inspects next. */
     uint32_t release_cursor;
+    /* Below 2147483648. 0, or as packet_window_set_base and packet_window_take_front left it. */
+    uint32_t base;
+    /* The first sequence from the base that is not live; base + window_size, modulo 2^31, if that many from the base are live. */
+    uint32_t point;
     /* Bit b: a page of block b holds a value. */
     uint64_t nonempty_summary;
     /* Bit b: every page of block b counts as retired. */
@@ -177,7 +187,9 @@ enum packet_window_refusal {
     /* The state is not sound. packet_window_check: exactly then. Any other call: perhaps, and the count may then be above 0. */
     PACKET_WINDOW_REFUSED_UNSOUND = 7,
     /* packet_window_release_retired, packet_window_clear_bounded: the number is above 256. */
-    PACKET_WINDOW_REFUSED_BUDGET = 8
+    PACKET_WINDOW_REFUSED_BUDGET = 8,
+    /* packet_window_set_base: a base of 2147483648 or more. */
+    PACKET_WINDOW_REFUSED_BASE = 9
 };
 
 typedef struct packet_window_answer {
@@ -205,7 +217,7 @@ typedef struct packet_window_outcome {
 /*
  * An empty window over lists of any content. n: the cells of a sparse page, 1 to 63; a page with more values becomes dense. demote_at:
  * a dense page that a removal leaves with this many values or fewer becomes sparse again; at most n, and 0 for never. Neither changes
- * what insert, get, exchange, remove, successor_after, first_from and remove_range answer.
+ * what insert, get, exchange, remove, set_base, take_front, successor_after, first_from and remove_range answer.
  * Writes pages and blocks. What an earlier window in the same lists held is forgotten and not handed back.
  * Answers: PACKET_WINDOW_DONE, with the new header. Refused: 1, 2, 3, 6; the header that comes back is then all zero, and every call
  * with it is refused 6. The lists stay as they were, and an earlier window in them goes on with its own header.
@@ -264,6 +276,29 @@ packet_window_step packet_window_remove(
     uint32_t *sequences, size_t sequences_length, uint32_t *values, size_t values_length,
     uint64_t *pages, size_t pages_length, uint64_t *blocks, size_t blocks_length,
     uint32_t sequence);
+
+/* ---- the base and its point */
+
+/*
+ * Sets the base, forwards or backwards, also away from all values. The point follows; nothing is removed.
+ * Writes nothing but the header.
+ * Answers: PACKET_WINDOW_DONE. Refused: 6, 9.
+ */
+packet_window_step packet_window_set_base(
+    packet_window_header w,
+    const uint32_t *sequences, size_t sequences_length, const uint32_t *values, size_t values_length,
+    const uint64_t *pages, size_t pages_length, const uint64_t *blocks, size_t blocks_length,
+    uint32_t base);
+
+/*
+ * Removes the value of the base and moves the base by one, modulo 2^31. If the base has none, nothing moves.
+ * Writes sequences, values, pages, blocks.
+ * Answers: PACKET_WINDOW_FOUND with the value, handed back; or PACKET_WINDOW_ABSENT. Refused: 6.
+ */
+packet_window_step packet_window_take_front(
+    packet_window_header w,
+    uint32_t *sequences, size_t sequences_length, uint32_t *values, size_t values_length,
+    uint64_t *pages, size_t pages_length, uint64_t *blocks, size_t blocks_length);
 
 /* ---- searches */
 
@@ -423,20 +458,22 @@ PACKET_WINDOW_AT(header, demote_at, 8);
 PACKET_WINDOW_AT(header, len, 12);
 PACKET_WINDOW_AT(header, retired_held, 16);
 PACKET_WINDOW_AT(header, release_cursor, 20);
-PACKET_WINDOW_AT(header, nonempty_summary, 24);
-PACKET_WINDOW_AT(header, retired_blocks, 32);
-PACKET_WINDOW_AT(header, promotions, 40);
-PACKET_WINDOW_AT(header, demotions, 48);
-PACKET_WINDOW_SIZE(header, 56);
+PACKET_WINDOW_AT(header, base, 24);
+PACKET_WINDOW_AT(header, point, 28);
+PACKET_WINDOW_AT(header, nonempty_summary, 32);
+PACKET_WINDOW_AT(header, retired_blocks, 40);
+PACKET_WINDOW_AT(header, promotions, 48);
+PACKET_WINDOW_AT(header, demotions, 56);
+PACKET_WINDOW_SIZE(header, 64);
 PACKET_WINDOW_AT(answer, code, 0);
 PACKET_WINDOW_AT(answer, first, 4);
 PACKET_WINDOW_AT(answer, second, 8);
 PACKET_WINDOW_AT(answer, third, 12);
 PACKET_WINDOW_SIZE(answer, 16);
 PACKET_WINDOW_AT(step, window, 0);
-PACKET_WINDOW_AT(step, answer, 56);
-PACKET_WINDOW_AT(step, count, 72);
-PACKET_WINDOW_SIZE(step, 80);
+PACKET_WINDOW_AT(step, answer, 64);
+PACKET_WINDOW_AT(step, count, 80);
+PACKET_WINDOW_SIZE(step, 88);
 PACKET_WINDOW_AT(outcome, answer, 0);
 PACKET_WINDOW_AT(outcome, count, 16);
 PACKET_WINDOW_SIZE(outcome, 20);

@@ -6,7 +6,8 @@
 // The words are given in the order in which the port keeps them: a page as
 // kind, occupied, filled; a block as nonempty, retired, live.
 
-/// The header of the port, read from the source's fields.
+/// The header of the port, read from the source's fields. It has no base and
+/// no point: they are worked out beside it.
 #[derive(Debug, Clone, Copy, PartialEq, Eq)]
 pub struct WindowHeader {
     pub window_size: u32,
@@ -15,6 +16,8 @@ pub struct WindowHeader {
     pub len: u32,
     pub retired_held: u32,
     pub release_cursor: u32,
+    pub base: u32,
+    pub point: u32,
     pub nonempty_summary: u64,
     pub retired_blocks: u64,
     pub promotions: u64,
@@ -73,7 +76,11 @@ impl<T, const N: usize> AdaptiveReceiverPacketWindow<T, N> {
             .count()
     }
 
-    pub fn header(&self) -> WindowHeader {
+    pub fn window_size(&self) -> u32 {
+        self.window_size
+    }
+
+    pub fn header(&self, base: u32, point: u32) -> WindowHeader {
         WindowHeader {
             window_size: self.window_size,
             n: N as u32,
@@ -81,6 +88,8 @@ impl<T, const N: usize> AdaptiveReceiverPacketWindow<T, N> {
             len: self.len,
             retired_held: self.retired_held,
             release_cursor: self.release_cursor,
+            base,
+            point,
             nonempty_summary: self.nonempty_summary,
             retired_blocks: self.retired_blocks,
             promotions: self.promotions as u64,

@@ -43,11 +43,11 @@ CRATES = ['words', 'window', 'model']  # those whose definitions are run
 LETTERS = {
     'i': 'insert {} {} true', 'g': 'ask (get {})', 'r': 'remove {}', 's': 'ask (successor-after {})', 'f': 'ask (first-from {})',
     'e': 'exchange {} {}', 'd': 'remove-range {} {} true', 'q': 'ask (stranger {} {})', 'b': 'clear-bounded {} true',
-    'v': 'release-retired {} true', 'c': 'clear true',
+    'v': 'release-retired {} true', 'c': 'clear true', 'a': 'set-base {}', 't': 'take-front',
 }
 NUMBERS = {'q': 'pair {} 0 0'}  # what a number says that a letter prints; `found` for the others
 # The header's fields in the order in which `oracle --words` prints them (oracle/src/state.rs).
-HEADER = 'window_size n demote_at len retired_held release_cursor nonempty_summary retired_blocks promotions demotions'.split()
+HEADER = 'window_size n demote_at len retired_held release_cursor base point nonempty_summary retired_blocks promotions demotions'.split()
 BLOCK = 3  # words of a block
 
 # What the prover needs for a call, roughly, in thousandths of a second (cost_of): so much, and for a letter that searches so
@@ -561,9 +561,9 @@ def summary(runs, files, theorems, seconds):
 # ---- the test can fail
 
 # Calls, answers, and the source's words after the last of them.
-TRUE_CALLS = 'n 64 2 1;i 5 50;i 69 51;i 6 60;i 7 70;l;d 6 7;q 69 69;g 5'
-TRUE_ANSWERS = 'n . 0 0 0 0;i + 1 0 0 0;i !4 1 0 0 0;i + 2 0 0 0;i + 3 0 1 0;l 3 3 0 1 0 5:50 6:60 7:70;d 2 1 0 1 1 60 70;q 5 1 0 1 1;g 50 1 0 1 1'
-TRUE_WORDS = '64 2 1 1 0 0 1 0 1 1|1 0 1|0 1 32 1 0.5.50'
+TRUE_CALLS = 'n 64 2 1;i 5 50;i 69 51;i 6 60;i 7 70;l;d 6 7;q 69 69;a 5;g 5'
+TRUE_ANSWERS = 'n . 0 0 0 0;i + 1 0 0 0;i !4 1 0 0 0;i + 2 0 0 0;i + 3 0 1 0;l 3 3 0 1 0 5:50 6:60 7:70;d 2 1 0 1 1 60 70;q 5 1 0 1 1;a . 1 0 1 1;g 50 1 0 1 1'
+TRUE_WORDS = '64 2 1 1 0 0 5 6 1 0 1 1|1 0 1|0 1 32 1 0.5.50'
 # What is falsified, the text before and after, what of it the prover shows, and which theorems say it.
 FALSE = [
     ('an answer', '(ask (get 5)) (found 50)', '(ask (get 5)) (found 51)', '51', 'window table positions'),
@@ -575,6 +575,8 @@ FALSE = [
     ('the order of values returned', '(60 ∷ 70 ∷ [])', '(70 ∷ 60 ∷ [])', '70 ∷ 60 ∷ []', 'window positions'),
     ('a pair listed', 'pairOf 6 60', 'pairOf 6 61', '61', 'window'),
     ('a word of the header', '«release_cursor» = 0', '«release_cursor» = 1', '1', 'window'),
+    ('the base', ' base = 5', ' base = 4', '4', 'window'),
+    ('the point', 'point = 6', 'point = 5', '5', 'window'),
     ('a word of a block', 'block 1 0 1', 'block 1 0 2', '2', 'window'),
     ('a word of a page', 'page 0 1 32 1', 'page 0 2 32 1', '2', 'window'),
     ('a cell in use', 'cell 0 5 50', 'cell 0 5 51', '51', 'window'),
@@ -585,7 +587,7 @@ def true_run():
     calls, answers = ([line.replace(' ', '\t') for line in text.split(';')] for text in (TRUE_CALLS, TRUE_ANSWERS))
     states = [None] * (len(answers) - 1) + [TRUE_WORDS]
     run = runs_of('selftest', [call.encode() for call in calls], answers, states)[0]
-    choose([run])
+    run.pieces = [run.entries]
     return run
 
 

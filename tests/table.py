@@ -1,5 +1,5 @@
 #!/usr/bin/env python3
-"""Document 01's plain table, and its comparison with a line program's output.
+"""Document 01's plain table with document 02's base, and its comparison with a line program's output.
 
 For whoever runs a line program, be it the oracle over the source or
 windowlines:
@@ -57,7 +57,8 @@ def count_of(first, last):
 
 
 class Table:
-    """State: at each position nothing (as when fresh) or one (sequence, value).
+    """State: at each position nothing (as when fresh) or one (sequence, value),
+    and the base.
 
     A method makes the call's step and gives its answer as the line program
     writes it; None where the table does not know the answer.
@@ -69,6 +70,7 @@ class Table:
         self.capacity = 64
         while self.capacity < window_size:
             self.capacity *= 2
+        self.base = 0
         self.pairs = {}      # position -> (sequence, value)
         self.listed = set()  # the same pairs as 'sequence:value', kept in step,
         #                      so that a listing is compared without a rebuild
@@ -169,6 +171,22 @@ class Table:
         """first_from begins at the sequence's own position."""
         return self.search(self.position(sequence))
 
+    def set_base(self, base):
+        """a (sequence), which sets the base and answers `.`. 9, a base of
+        2147483648 or more."""
+        if base >= 2 ** 31:
+            return refuse(9)
+        self.base = base
+        return NOTHING
+
+    def take_front(self):
+        """Taking the front value removes the base's value and moves the base by
+        one; if it is absent, nothing moves. Sums with the base are modulo 2^31."""
+        answer = self.remove(self.base)
+        if answer != ABSENT:
+            self.base = (self.base + 1) % 2 ** 31
+        return answer
+
     # What the calls share.
 
     def position(self, sequence):
@@ -217,12 +235,13 @@ class Table:
 # Reading a call line.
 
 FIELDS = {'n': 3, 'i': 2, 'g': 1, 'r': 1, 's': 1, 'f': 1, 'e': 2,
-          'd': 2, 'q': 2, 'b': 1, 'v': 1, 'c': 0, 'l': 0}
+          'd': 2, 'q': 2, 'b': 1, 'v': 1, 'c': 0, 'l': 0, 'a': 1, 't': 0}
 
 CALLS = {'i': Table.insert, 'g': Table.get, 'r': Table.remove,
          's': Table.successor_after, 'f': Table.first_from, 'e': Table.exchange,
          'd': Table.remove_range, 'q': Table.stranger, 'b': Table.clear_bounded,
-         'v': Table.release_retired, 'c': Table.clear, 'l': Table.iter}
+         'v': Table.release_retired, 'c': Table.clear, 'l': Table.iter,
+         'a': Table.set_base, 't': Table.take_front}
 
 
 def number(field, limit=MAX_NUMBER):

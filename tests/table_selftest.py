@@ -143,6 +143,49 @@ i + 1 0 0 0 9
 l 1 1 0 0 0 4:10
 '''))
 
+# Document 02, S-1: the base, its wrap, and what is no value of the base: an alias, a retired value.
+FRONT = (tabbed('''
+n 64 1 0
+t
+i 2147483648 7
+t
+r 2147483648
+i 2147483647 1
+i 0 2
+a 2147483648
+a 2147483647
+t
+t
+t
+i 1 3
+b 0
+t
+i 1 4
+t
+a 1
+t
+'''), tabbed('''
+n . 0 0 0 0
+t - 0 0 0 0
+i + 1 0 0 0
+t - 1 0 0 0
+r 7 0 0 0 0
+i + 1 0 0 0
+i + 2 0 1 0
+a !9 2 0 1 0
+a . 2 0 1 0
+t 1 1 0 1 0
+t 2 0 0 1 0
+t - 0 0 1 0
+i + 1 0 1 0
+b 0 0 1 1 0
+t - 0 1 1 0
+i + 1 0 1 0 3
+t 4 0 0 1 0
+a . 0 0 1 0
+t - 0 0 1 0
+'''))
+
 # Document 01, section 'Edge cases': the starred cases of ranges and searches.
 RANGES = (tabbed('''
 n 64 1 0
@@ -287,6 +330,17 @@ WRONG = [
     ('an insert drops a store that stays retired', REVIVED, 516, 'i + 2 260 8 0 1252 1253 1254 1255'),
     ('retired_held one too low', EDGE, 515, 'v 0:1 0 259 8 0'),
     ('release gives a value given before', EDGE, 516, 'v 1:2 0 259 8 0 1251'),
+    ('the front taken by position alone', FRONT, 4, 't 7 0 0 0 0'),
+    ('a base of 2147483648 taken', FRONT, 8, 'a . 2 0 1 0'),
+    ('a base below 2147483648 refused', FRONT, 9, 'a !9 2 0 1 0'),
+    ('a base that does not move', FRONT, 11, 't - 1 0 1 0'),
+    ('a base that does not wrap', FRONT, 11, 't 7 0 0 1 0'),
+    ('a front taken that is left live', FRONT, 10, 't 1 2 0 1 0'),
+    ('a front taken and also dropped', FRONT, 10, 't 1 1 0 1 0 1'),
+    ('the front found in a retired page', FRONT, 15, 't 3 0 0 1 0'),
+    ('a front told as done', FRONT, 17, 't . 0 0 1 0'),
+    ('a base that moves without a value', FRONT, 17, 't - 1 0 1 0'),
+    ('a front taken twice', FRONT, 19, 't 4 0 0 1 0'),
     ('an answer before an accepted n', PARSE, 1, 'g - 0 0 0 0'),
     ('a refused n taken as a window', PARSE, 3, 'l 0 0 0 0 0'),
     ('an empty line left unanswered', PARSE, 4, None),
@@ -299,7 +353,7 @@ WRONG = [
     ('? for the largest number', PARSE, 26, '?'),
 ]
 
-RIGHT = [('the listing', LISTING), ('points', POINTS), ('release', RELEASE), ('ranges', RANGES),
+RIGHT = [('the listing', LISTING), ('points', POINTS), ('release', RELEASE), ('front', FRONT), ('ranges', RANGES),
          ('clear and release', EDGE), ('clear and insert', REVIVED), ('no calls', PARSE),
          ('empty input', ([], []))]
 

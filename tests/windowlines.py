@@ -30,6 +30,7 @@ SHOWN = {
     "strangers": (rb"^q\t\d", 100000),
     "64 values or more": (rb"^[a-z]\t[^\t\n]+\t(?:6[4-9]|[7-9]\d|\d{3,})\t", 100000),
     "retired values held": (rb"^[a-z]\t[^\t\n]+\t\d+\t[1-9]", 10000),
+    "fronts taken": (rb"^t\t\d", 10000),
     "pages revived": (rb"^i\t[^\t\n]+(?:\t\d+){5}", 1000),
 }
 ANSWERED = 1000  # lines of each letter with an answer that is not `?`

@@ -144,10 +144,11 @@ enum Plan {
     Clear,
     Budget,
     Search,
+    Front,
 }
 
 /// How often each plan comes up in each manner, in the order of `MANNERS`.
-const PLANS: [(Plan, [u32; 5]); 13] = [
+const PLANS: [(Plan, [u32; 5]); 14] = [
     (Plan::Run, [6, 14, 6, 14, 3]),
     (Plan::Put, [12, 8, 8, 8, 30]),
     (Plan::InsertAgain, [6, 4, 6, 3, 4]),
@@ -161,6 +162,7 @@ const PLANS: [(Plan, [u32; 5]); 13] = [
     (Plan::Clear, [2, 1, 2, 6, 2]),
     (Plan::Budget, [6, 3, 4, 16, 8]),
     (Plan::Search, [12, 6, 12, 6, 14]),
+    (Plan::Front, [14, 10, 12, 10, 12]),
 ];
 
 pub struct Generator {
@@ -184,6 +186,9 @@ pub struct Generator {
     present: Memory,
     /// Sequences removed or retired lately.
     gone: Memory,
+    /// About where the base is, and how many from it are probably live.
+    base: u32,
+    front: u32,
     next_value: u32,
     pending: VecDeque<Item>,
 }
@@ -218,6 +223,8 @@ impl Generator {
             last_run: (0, 1),
             present: Memory::default(),
             gone: Memory::default(),
+            base: 0,
+            front: 0,
             next_value: 1,
             pending: VecDeque::new(),
         };
@@ -289,6 +296,7 @@ impl Generator {
             Plan::Clear => self.clear(Call::Clear),
             Plan::Budget => self.budget(),
             Plan::Search => self.search(),
+            Plan::Front => self.front(),
         }
     }
 
@@ -399,6 +407,7 @@ impl Generator {
 
     fn remove_range(&mut self, first: u32, last: u32) {
         self.call(Call::RemoveRange { first, last });
+        self.front = 0;
         let reach = last.wrapping_sub(first) & (HALF - 1);
         let positions = self.capacity - 1;
         if reach < self.window_size {
@@ -624,8 +633,114 @@ impl Generator {
         }
     }
 
+    /// What a receiver does at its base.
+    fn front(&mut self) {
+        match self.random.below(8) {
+            0 | 1 => {
+                let base = self.some_base();
+                self.set_base(base);
+            }
+            2..=4 => self.fill_front(),
+            5 => {
+                let alias = self.alias_of(self.base);
+                self.insert(alias);
+                self.take_front();
+            }
+            _ => {
+                for _ in 0..self.random.between(1, 12) {
+                    self.take_front();
+                }
+            }
+        }
+    }
+
+    /// Where a base may be: at a value or near one, at its alias, where values
+    /// were, near 2^31, before the last one, away from all values; or a number
+    /// that is refused.
+    fn some_base(&mut self) -> u32 {
+        let known = match self.known() {
+            high if high >= HALF => self.known(),
+            known => known,
+        };
+        let base = match self.random.below(14) {
+            0 => HALF - self.random.between(1, 80),
+            1 => 0,
+            2 => self.random.any(),
+            3 => known.wrapping_sub(self.random.below(80)),
+            4 => self.base.wrapping_sub(self.random.below(80)),
+            5 => self.last_run.0,
+            6 => self.alias_of(known),
+            7 => self.former(),
+            8 | 9 => return self.random.pick(&[HALF, HALF + 1, u32::MAX, known | HALF]),
+            _ => known,
+        };
+        base & (HALF - 1)
+    }
+
+    fn set_base(&mut self, base: u32) {
+        self.call(Call::SetBase(base));
+        if base < HALF {
+            (self.base, self.front) = (base, 0);
+        }
+    }
+
+    /// The sequence so many after the base, in 31-bit circular order.
+    fn after_base(&self, steps: u32) -> u32 {
+        self.base.wrapping_add(steps) & (HALF - 1)
+    }
+
+    /// In order from the base, in a third of the cases with one hole that is
+    /// filled late or never; then the front is taken. Where all of the window
+    /// is live, now and then the sequence after it too.
+    fn fill_front(&mut self) {
+        let longest = self.longest_run.min(self.window_size);
+        let count = match self.random.below(3) {
+            0 => longest,
+            _ => self.random.between(1, longest),
+        };
+        if self.random.percent(20) {
+            let base = HALF - self.random.between(1, count);
+            self.set_base(base);
+        }
+        if self.random.percent(60) {
+            self.remove_range(self.base, self.after_base(count - 1));
+        }
+        let hole = self.random.below(3 * count);
+        for steps in (0..count).filter(|&steps| steps != hole) {
+            self.insert(self.after_base(steps));
+        }
+        self.front = hole.min(count);
+        if hole < count && self.random.percent(70) {
+            self.insert(self.after_base(hole));
+            self.front = count;
+        }
+        if count == self.window_size && self.random.percent(40) {
+            self.insert(self.after_base(count));
+        }
+        let taken = match self.random.below(6) {
+            0 | 1 => 0,
+            2 => count + 1,
+            _ => self.random.between(1, 20),
+        };
+        for _ in 0..taken.min(200) {
+            self.take_front();
+        }
+    }
+
+    /// Its base moves if a value is probably there.
+    fn take_front(&mut self) {
+        self.call(Call::TakeFront);
+        let base = self.base;
+        if self.front > 0 || self.present.0.contains(&base) {
+            self.front = self.front.saturating_sub(1);
+            self.forget(|held| held == base);
+            self.base = self.after_base(1);
+        }
+    }
+
     fn clear(&mut self, call: Call) {
         self.call(call);
+        self.front = 0;
         self.forget(|_| true);
         self.after_retiring();
     }
@@ -690,7 +805,7 @@ impl Generator {
         }
         for _ in 0..self.random.between(1, 6) {
             let former = self.former();
-            match self.random.below(10) {
+            match self.random.below(11) {
                 0 | 1 => self.insert(former),
                 2 => {
                     let near = former.wrapping_add(self.random.below(PAGE));
@@ -707,6 +822,10 @@ impl Generator {
                     self.remove_range(former, last);
                 }
                 7 => self.search(),
+                8 => {
+                    self.set_base(former & (HALF - 1));
+                    self.take_front();
+                }
                 _ => {
                     let number = self.number();
                     self.call(Call::ReleaseRetired(number));
@@ -744,6 +863,7 @@ impl Generator {
         self.last_run = (self.head, 1);
         self.present = Memory::default();
         self.gone = Memory::default();
+        (self.base, self.front) = (0, 0);
         self.call(Call::New {
             window_size: self.window_size,
             n,
@@ -818,6 +938,8 @@ impl Generator {
             (b'v', 1),
             (b'c', 0),
             (b'l', 0),
+            (b'a', 1),
+            (b't', 0),
         ]);
         let mut fields = Vec::new();
         for _ in 0..count {
@@ -825,7 +947,7 @@ impl Generator {
         }
         match self.random.below(16) {
             0 => Vec::new(),
-            1 => joined(&[self.random.pick(b"amxz?!+0 ")], &fields),
+            1 => joined(&[self.random.pick(b"kmxz?!+0 ")], &fields),
             2 => joined(&[letter.to_ascii_uppercase()], &fields),
             3 => joined(&[letter, letter], &fields),
             4 => joined(b"", &fields),

@@ -36,6 +36,8 @@ pub enum Call {
     ReleaseRetired(u32),
     Clear,
     Iter,
+    SetBase(u32),
+    TakeFront,
 }
 
 /// A field is decimal without leading zeros and at most 4294967295. Anything
@@ -79,6 +81,8 @@ impl Call {
             (b'v', &[number]) => Self::ReleaseRetired(number),
             (b'c', &[]) => Self::Clear,
             (b'l', &[]) => Self::Iter,
+            (b'a', &[base]) => Self::SetBase(base),
+            (b't', &[]) => Self::TakeFront,
             _ => return None,
         })
     }
@@ -98,6 +102,8 @@ impl Call {
             Self::ReleaseRetired(_) => 'v',
             Self::Clear => 'c',
             Self::Iter => 'l',
+            Self::SetBase(_) => 'a',
+            Self::TakeFront => 't',
         }
     }
 
@@ -119,8 +125,9 @@ impl Call {
             | Self::SuccessorAfter(number)
             | Self::FirstFrom(number)
             | Self::ClearBounded(number)
-            | Self::ReleaseRetired(number) => vec![number],
-            Self::Clear | Self::Iter => Vec::new(),
+            | Self::ReleaseRetired(number)
+            | Self::SetBase(number) => vec![number],
+            Self::Clear | Self::Iter | Self::TakeFront => Vec::new(),
         }
     }
 

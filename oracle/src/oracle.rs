@@ -1,4 +1,4 @@
-//! The line program of document 01 over the unchanged source.
+//! The line program of documents 01 and 02 over the unchanged source.
 //!
 //! Reads calls from standard input, writes one line of answer for each.
 //! `--large` lifts the limit of 4096 on window_size. `--words` writes in place
@@ -72,15 +72,7 @@ impl Program {
 
     /// Len, retired_held, promotions and demotions; 0 with no window.
     fn counts(&self) -> [u64; 4] {
-        self.window.as_ref().map_or([0; 4], |window| {
-            let header = window.header();
-            [
-                u64::from(header.len),
-                u64::from(header.retired_held),
-                header.promotions,
-                header.demotions,
-            ]
-        })
+        self.window.as_ref().map_or([0; 4], |window| window.counts())
     }
 }
 

@@ -1,9 +1,9 @@
-//! The calls of document 01, answered by the unchanged source.
+//! The calls of documents 01 and 02, answered by the unchanged source.
 //!
 //! The source takes N as a const parameter; a trait object hides it, with one
 //! instance for each N from 1 to 63. What the source lacks or answers with a
-//! panic is worked out here: refusals 1, 2, 3 and 8, the units of
-//! release_retired, and stranger.
+//! panic is worked out here: refusals 1, 2, 3, 8 and 9, the units of
+//! release_retired, stranger, the base and its point.
 
 use crate::line::Call;
 use crate::value::{take_dropped, Value};
@@ -38,7 +38,10 @@ impl Answer {
 pub trait Window: Memory {
     /// Make any call but new.
     fn call(&mut self, call: Call) -> Answer;
+    /// The header as the port has it; its point is looked for in each call of this.
     fn header(&self) -> WindowHeader;
+    /// Len, retired_held, promotions and demotions.
+    fn counts(&self) -> [u64; 4];
 }
 
 /// The words and cells of a window, for comparisons with the port's.
@@ -52,58 +55,89 @@ pub trait Memory {
 
 type Source<const N: usize> = AdaptiveReceiverPacketWindow<Value, N>;
 
-impl<const N: usize> Window for Source<N> {
+/// The source's window, and beside it the base, which is 0 at first.
+struct Based<const N: usize> {
+    window: Source<N>,
+    base: u32,
+}
+
+impl<const N: usize> Window for Based<N> {
     fn call(&mut self, call: Call) -> Answer {
+        let window = &mut self.window;
         match call {
             Call::New { .. } => unreachable!("new makes a window, it is no call on one"),
-            Call::Insert { sequence, value } => insert(self, sequence, value),
-            Call::Get(sequence) => Answer::number_or_absent(self.get(sequence).map(Value::number)),
-            Call::Remove(sequence) => {
-                Answer::number_or_absent(self.remove(sequence).map(Value::into_number))
+            Call::Insert { sequence, value } => insert(window, sequence, value),
+            Call::Get(sequence) => {
+                Answer::number_or_absent(window.get(sequence).map(Value::number))
             }
+            Call::Remove(sequence) => remove(window, sequence),
             Call::SuccessorAfter(sequence) => {
-                Answer::number_or_absent(self.successor_after(sequence))
+                Answer::number_or_absent(window.successor_after(sequence))
             }
-            Call::FirstFrom(sequence) => Answer::number_or_absent(self.first_from(sequence)),
-            Call::Exchange { sequence, value } => exchange(self, sequence, value),
-            Call::RemoveRange { first, last } => self
+            Call::FirstFrom(sequence) => Answer::number_or_absent(window.first_from(sequence)),
+            Call::Exchange { sequence, value } => exchange(window, sequence, value),
+            Call::RemoveRange { first, last } => window
                 .remove_range(first, last)
                 .map_or(Answer::Refused(5), |removed| Answer::Number(removed as u32)),
-            Call::Stranger { first, last } => stranger(self, first, last),
+            Call::Stranger { first, last } => stranger(window, first, last),
             Call::ClearBounded(number) if above_visit(number) => Answer::Refused(8),
             Call::ClearBounded(number) => {
-                Answer::Number(self.clear_bounded(number as usize) as u32)
+                Answer::Number(window.clear_bounded(number as usize) as u32)
             }
             Call::ReleaseRetired(number) if above_visit(number) => Answer::Refused(8),
-            Call::ReleaseRetired(number) => release_retired(self, number),
+            Call::ReleaseRetired(number) => release_retired(window, number),
             Call::Clear => {
-                self.clear();
+                window.clear();
                 Answer::Nothing
             }
-            Call::Iter => Answer::Pairs(live_pairs(self)),
+            Call::Iter => Answer::Pairs(live_pairs(window)),
+            Call::SetBase(base) if base >= TOP_BIT => Answer::Refused(9),
+            Call::SetBase(base) => {
+                self.base = base;
+                Answer::Nothing
+            }
+            Call::TakeFront => {
+                let answer = remove(window, self.base);
+                if answer != Answer::Absent {
+                    self.base = after(self.base, 1);
+                }
+                answer
+            }
         }
     }
 
     fn header(&self) -> WindowHeader {
-        Source::header(self)
+        let point = point(&self.window, self.base);
+        self.window.header(self.base, point)
+    }
+
+    fn counts(&self) -> [u64; 4] {
+        let header = self.window.header(self.base, 0);
+        [
+            u64::from(header.len),
+            u64::from(header.retired_held),
+            header.promotions,
+            header.demotions,
+        ]
     }
 }
 
-impl<const N: usize> Memory for Source<N> {
+impl<const N: usize> Memory for Based<N> {
     fn page_count(&self) -> usize {
-        Source::page_count(self)
+        self.window.page_count()
     }
 
     fn block_words(&self) -> &[u64] {
-        Source::block_words(self)
+        self.window.block_words()
     }
 
     fn page_words(&self, page: usize) -> PageWords {
-        Source::page_words(self, page)
+        self.window.page_words(page)
     }
 
     fn page_cells(&self, page: usize) -> Vec<(usize, u32, u32)> {
-        Source::page_cells(self, page)
+        self.window
+            .page_cells(page)
             .map(|(cell, sequence, value)| (cell, sequence, value.number()))
             .collect()
     }
@@ -130,6 +164,25 @@ fn insert<const N: usize>(window: &mut Source<N>, sequence: u32, value: u32) -> 
             Answer::Refused(4)
         }
     }
+}
+
+fn remove<const N: usize>(window: &mut Source<N>, sequence: u32) -> Answer {
+    Answer::number_or_absent(window.remove(sequence).map(Value::into_number))
+}
+
+/// The sequence so many after a base, modulo 2^31.
+fn after(base: u32, steps: u32) -> u32 {
+    (base + steps) & DISTANCE_MASK
+}
+
+/// The first sequence from the base that is not live; if the window_size
+/// sequences from the base are all live, the base plus window_size.
+fn point<const N: usize>(window: &Source<N>, base: u32) -> u32 {
+    let mut live = 0;
+    while live < window.window_size() && window.get(after(base, live)).is_some() {
+        live += 1;
+    }
+    after(base, live)
 }
 
 /// `get_mut` and a write.
@@ -160,7 +213,7 @@ fn release_retired<const N: usize>(window: &mut Source<N>, budget: u32) -> Answe
 /// range, or whose top bit is set.
 fn stranger<const N: usize>(window: &Source<N>, first: u32, last: u32) -> Answer {
     let reach = last.wrapping_sub(first) & DISTANCE_MASK;
-    if reach >= window.header().window_size {
+    if reach >= window.window_size() {
         return Answer::Refused(5);
     }
     let position_mask = window.capacity() as u32 - 1;
@@ -175,11 +228,15 @@ fn stranger<const N: usize>(window: &Source<N>, first: u32, last: u32) -> Answer
         .map_or(Answer::Absent, |(sequence, value)| Answer::Pair { sequence, value })
 }
 
+fn based<const N: usize>(window: Source<N>) -> Box<dyn Window> {
+    Box::new(Based { window, base: 0 })
+}
+
 /// One arm for each N, since the source wants it when it is compiled.
 macro_rules! source_with {
     ($n:expr, $window_size:expr, $demote_at:expr, $($each:literal)*) => {
         match $n {
-            $($each => Box::new(Source::<$each>::new($window_size, $demote_at)) as Box<dyn Window>,)*
+            $($each => based(Source::<$each>::new($window_size, $demote_at)),)*
             _ => unreachable!("refusal 2 keeps N within 1 to 63"),
         }
     };

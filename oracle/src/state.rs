@@ -29,6 +29,8 @@ fn written_header(header: &WindowHeader) -> String {
         header.len,
         header.retired_held,
         header.release_cursor,
+        header.base,
+        header.point,
     ];
     let words = [
         header.nonempty_summary,

@@ -4,6 +4,11 @@
 //! rustc inlines it, and on the source behind a call boundary; the three take turns in each round, and the median of the
 //! rounds is shown, in nanoseconds a call. What the calls answered is summed, and the sums must be equal. In the rows marked
 //! `host` the library's insert, remove and release_retired are its host forms.
+//!
+//! In the rows `front` packets come in order, each followed by a take_front a lag behind; on the source that is a remove. In the rows
+//! marked `point` the point is asked for after each packet: on the library it is in the header, on the source it is looked for by a get
+//! of each sequence from the base on. `front, 1 % lost`: one packet in a hundred never comes, and the base is set past it. `hole`: the
+//! one sequence missing before half a window of live ones is inserted and removed again.
 
 /// The source's work counters stay out.
 macro_rules! count_work {
@@ -22,7 +27,7 @@ mod window;
 
 use clock::{clock_time, processor_time};
 use std::process::ExitCode;
-use subjects::{Called, Host, Inlined, Library, Window};
+use subjects::{Called, Host, Inlined, Library, Window, ABSENT};
 
 const ROUNDS: usize = 25;
 const CALLS: u32 = 100_000;
@@ -69,6 +74,25 @@ enum Work {
     Clear { held: u32 },
     /// Visits of a release in a window that has nothing retired.
     NoneRetired,
+    /// Packets inserted in order but those that are lost, and the front taken when it is this many behind; where it is absent, the base is
+    /// set to the next one. With `point`, that is asked for after each packet.
+    Front { lag: u32, lost: fn(u32) -> bool, point: bool },
+    /// So many sequences live after the base, which is inserted and removed again and again. With `point`, that is asked for after each
+    /// call.
+    Hole { live: u32, point: bool },
+}
+
+/// Sequences that are looked at for the point in one round, at most.
+const SCANNED: u32 = 4_000_000;
+
+/// How often so many sequences are looked at in one round.
+fn times(scanned: u32) -> u32 {
+    (CALLS / 2).min(SCANNED / scanned)
+}
+
+/// One packet in a hundred, at no equal distances.
+fn one_percent(sequence: u32) -> bool {
+    sequence.wrapping_mul(0x9e37_79b1) >> 16 < 655
 }
 
 impl Work {
@@ -78,6 +102,15 @@ impl Work {
             Work::Ranges { .. } | Work::Releases { .. } => Some(size),
             Work::Clear { held } => Some(*held),
             _ => None,
+        }
+    }
+
+    /// Where the base is before the first call. Sequences go on from `from`.
+    fn base(&self, from: u32) -> u32 {
+        match self {
+            Work::Front { lag, .. } => from - lag,
+            Work::Hole { .. } => START,
+            _ => 0,
         }
     }
 
@@ -196,16 +229,34 @@ fn rows() -> Vec<Row> {
         for (name, work) in [
             ("in order, lag 4, host", Work::InOrder { lag: 4 }),
             ("in order, lag half, host", Work::InOrder { lag: size / 2 }),
+            ("front, lag 4, host", Work::Front { lag: 4, lost: |_| false, point: false }),
             ("release_retired, none retired, host", Work::NoneRetired),
             ("show, host", show(size)),
         ] {
-            rows.push(Row { name, size, host: true, held: vec![], work });
+            let held = if let Work::Front { lag, .. } = work { (size - lag..size).collect() } else { vec![] };
+            rows.push(Row { name, size, host: true, held, work });
         }
         let mut row = |name, held, work| rows.push(Row { name, size, host: false, held, work });
         row("in order, lag 4", vec![], Work::InOrder { lag: 4 });
         row("in order, lag half", vec![], Work::InOrder { lag: size / 2 });
         row("1 % lost", vec![], arrivals(size, 1));
         row("10 % lost", vec![], arrivals(size, 10));
+        let none: fn(u32) -> bool = |_| false;
+        let half = size / 2;
+        for (name, lag, lost, point) in [
+            ("front, lag 4", 4, none, false),
+            ("front, lag 4, point", 4, none, true),
+            ("front, lag half", half, none, false),
+            ("front, lag half, point", half, none, true),
+            ("front, 1 % lost, lag half", half, one_percent, false),
+            ("front, 1 % lost, lag half, point", half, one_percent, true),
+        ] {
+            let held = (size - lag..size).filter(|&sequence| !lost(sequence)).collect();
+            row(name, held, Work::Front { lag, lost, point });
+        }
+        for (name, point) in [("hole before half", false), ("hole before half, point", true)] {
+            row(name, (START + 1..=START + half).collect(), Work::Hole { live: half, point });
+        }
         row("get, hit, dense", every(2), Work::Get(asked(size, 2, 0)));
         row("get, miss, dense", every(2), Work::Get(asked(size, 2, 1)));
         row("get, hit, sparse", every(16), Work::Get(asked(size, 16, 0)));
@@ -344,6 +395,41 @@ fn work<W: Window>(windows: &mut [W], row: &Row, from: &mut u32) -> (u32, u64) {
             (0..CALLS).for_each(|_| add(w.release_retired(VISIT)));
             CALLS
         }
+        Work::Front { lag, lost, point } => {
+            let (end, mut calls) = (*from + if *point { times(*lag) } else { CALLS / 2 }, 0);
+            for sequence in *from..end {
+                if !lost(sequence) {
+                    add(w.insert(sequence, !sequence));
+                    calls += 1;
+                }
+                let front = w.take_front();
+                add(front);
+                calls += 1;
+                if front == ABSENT {
+                    add(w.set_base(sequence + 1 - lag));
+                    calls += 1;
+                }
+                if *point {
+                    add(w.point());
+                }
+            }
+            *from = end;
+            calls
+        }
+        Work::Hole { live, point } => {
+            let times = times(*live);
+            for value in 0..times {
+                add(w.insert(START, value));
+                if *point {
+                    add(w.point());
+                }
+                add(w.remove(START));
+                if *point {
+                    add(w.point());
+                }
+            }
+            2 * times
+        }
     };
     (calls, sum)
 }
@@ -373,6 +459,7 @@ impl<W: Window> Timed<W> {
         for &sequence in &row.held {
             windows[0].insert(sequence, !sequence);
         }
+        windows[0].set_base(row.work.base(row.size));
         let mut timed = Self { windows, passes, clock: clock_time(), from: row.size, nanoseconds: Vec::new() };
         timed.round(row);
         timed.nanoseconds.clear();

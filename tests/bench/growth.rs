@@ -2,7 +2,8 @@
 //!
 //! One line for each call in each window: the series, the call, the window's size, the live values, then the median of the
 //! rounds in nanoseconds a call, of the library (insert, remove and release_retired by their host forms) and of the source
-//! with each call behind a call boundary. What the calls answered is summed, and the sums must be equal.
+//! with each call behind a call boundary, where a point is looked for by a get of each sequence from the base on. What the
+//! calls answered is summed, and the sums must be equal.
 
 /// The source's work counters stay out.
 macro_rules! count_work {
@@ -32,7 +33,8 @@ const FEW: u32 = 8;
 const NEAR: u32 = 16;
 const VISIT: u32 = 256;
 
-/// The calls of a line. Live values lie at equal distances but for InOrder, where they are the last ones inserted.
+/// The calls of a line. Live values lie at equal distances but for InOrder, where they are the last ones inserted, and for the last two,
+/// where they lie in a row.
 #[derive(Clone, Copy, PartialEq)]
 enum Calls {
     /// The oldest value removed, the next one inserted.
@@ -50,9 +52,13 @@ enum Calls {
     Iter,
     /// With nothing retired.
     Release,
+    /// Live values in a row after the base, which is inserted and removed; the point is asked for after each call.
+    Hole,
+    /// The base set to one of the first live values of a row; the point is asked for after each call.
+    SetBase,
 }
 
-const CALLS_NAMED: [(Calls, &str); 8] = [
+const CALLS_NAMED: [(Calls, &str); 10] = [
     (Calls::InOrder, "insert and remove"),
     (Calls::Get, "get"),
     (Calls::GetNear, "get, 16 sequences"),
@@ -61,7 +67,12 @@ const CALLS_NAMED: [(Calls, &str); 8] = [
     (Calls::FirstFrom, "first_from"),
     (Calls::Iter, "iter step"),
     (Calls::Release, "release_retired"),
+    (Calls::Hole, "insert and remove at the base, point"),
+    (Calls::SetBase, "set_base, point"),
 ];
+
+/// Gets of a scan for the point in one round, at most.
+const SCANNED: u32 = 2_000_000;
 
 /// A window with its live values.
 #[derive(Clone, Copy)]
@@ -130,6 +141,22 @@ fn made<W: Window>(w: &mut W, calls: Calls, held: Held, asked: &[u32], from: &mu
             }
         }
         Calls::Release => (0..CALLS).for_each(|_| add(w.release_retired(VISIT))),
+        Calls::Hole => {
+            count = CALLS.min(SCANNED / held.live);
+            for value in 0..count / 2 {
+                add(w.insert(0, value));
+                add(w.point());
+                add(w.remove(0));
+                add(w.point());
+            }
+        }
+        Calls::SetBase => {
+            count = CALLS.min(SCANNED / held.live);
+            for at in 0..count {
+                add(w.set_base(1 + at % 2));
+                add(w.point());
+            }
+        }
     }
     (count, sum)
 }
@@ -150,9 +177,11 @@ impl<W: Window> Timed<W> {
             }
             window.clear();
         }
-        let distance = if calls == Calls::InOrder { 1 } else { held.distance() };
-        for at in 0..held.live {
-            window.insert(at * distance, at);
+        let pointing = matches!(calls, Calls::Hole | Calls::SetBase);
+        let distance = if calls == Calls::InOrder || pointing { 1 } else { held.distance() };
+        let first = u32::from(pointing);
+        for at in 0..held.live.min(held.size - first) {
+            window.insert(first + at * distance, at);
         }
         Self { window, from: held.live, nanoseconds: Vec::new() }
     }

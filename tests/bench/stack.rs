@@ -153,6 +153,8 @@ impl Window {
             Call::SuccessorAfter(sequence) => step!(packet_window_successor_after, read(&[sequence])),
             Call::FirstFrom(sequence) => step!(packet_window_first_from, read(&[sequence])),
             Call::Exchange { sequence, value } => step!(packet_window_exchange, read(&[sequence, value])),
+            Call::SetBase(base) => step!(packet_window_set_base, read(&[base])),
+            Call::TakeFront => step!(packet_window_take_front, read(&[])),
             Call::Iter => {
                 let mut cell = 0;
                 loop {

@@ -18,6 +18,11 @@ pub trait Window {
     fn remove_range(&mut self, first: u32, last: u32) -> u64;
     fn release_retired(&mut self, budget: u32) -> u64;
     fn clear(&mut self) -> u64;
+    fn set_base(&mut self, base: u32) -> u64;
+    /// The base's value removed; if there is one the base moves by one.
+    fn take_front(&mut self) -> u64;
+    /// The first sequence from the base that is not live: of the library a field of its header, of the source looked for.
+    fn point(&self) -> u64;
 }
 
 /// The library's code of what release_retired answers.
@@ -26,9 +31,9 @@ const RELEASED: u32 = 6;
 const REFUSED: u64 = 1 << 32;
 const NEW: u64 = 2 << 32;
 const REPLACED: u64 = 3 << 32;
-const ABSENT: u64 = 4 << 32;
+pub const ABSENT: u64 = 4 << 32;
 const FOUND: u64 = 5 << 32;
-const CLEARED: u64 = 6 << 32;
+const NOTHING: u64 = 6 << 32;
 
 /// Codes of the library that the source can answer, as numbers.
 fn number(answer: NumberedAnswer) -> u64 {
@@ -40,6 +45,26 @@ fn number(answer: NumberedAnswer) -> u64 {
         _ => REFUSED,
     };
     kind | if kind == REFUSED { 0 } else { u64::from(answer.first) }
+}
+
+/// What a call answers that tells nothing.
+fn done(answer: NumberedAnswer) -> u64 {
+    if answer.code == DONE { NOTHING } else { REFUSED }
+}
+
+/// The sequence so many after a base.
+fn after(base: u32, steps: u32) -> u32 {
+    base.wrapping_add(steps) & 0x7fff_ffff
+}
+
+/// The first sequence from the base that `get` does not find, at most window_size from it.
+#[inline(always)]
+fn scanned(w: &impl Window, base: u32, window_size: u32) -> u64 {
+    let mut reach = 0;
+    while reach < window_size && w.get(after(base, reach)) != ABSENT {
+        reach += 1;
+    }
+    u64::from(after(base, reach))
 }
 
 fn found(answer: Option<u32>) -> u64 {
@@ -155,7 +180,25 @@ impl Window for Library {
         let w = self;
         let step = call!(w, packet_window_clear, [sequences, values, pages, blocks, returned],);
         w.header = step.window;
-        if step.answer.code == DONE { CLEARED } else { REFUSED }
+        done(step.answer)
+    }
+
+    fn set_base(&mut self, base: u32) -> u64 {
+        let w = self;
+        let step = call!(w, packet_window_set_base, [sequences, values, pages, blocks], base);
+        w.header = step.window;
+        done(step.answer)
+    }
+
+    fn take_front(&mut self) -> u64 {
+        let w = self;
+        let step = call!(w, packet_window_take_front, [sequences, values, pages, blocks],);
+        w.header = step.window;
+        number(step.answer)
+    }
+
+    fn point(&self) -> u64 {
+        u64::from(self.header.point)
     }
 }
 
@@ -205,18 +248,34 @@ impl Window for Host {
     fn clear(&mut self) -> u64 {
         self.0.clear()
     }
+
+    fn set_base(&mut self, base: u32) -> u64 {
+        self.0.set_base(base)
+    }
+
+    fn take_front(&mut self) -> u64 {
+        self.0.take_front()
+    }
+
+    fn point(&self) -> u64 {
+        self.0.point()
+    }
 }
 
-/// The source, inlined as rustc likes.
-pub struct Inlined(AdaptiveReceiverPacketWindow<u32, N>);
+/// The source, inlined as rustc likes, and a base beside it.
+pub struct Inlined {
+    window: AdaptiveReceiverPacketWindow<u32, N>,
+    window_size: u32,
+    base: u32,
+}
 
 impl Window for Inlined {
     fn new(window_size: u32) -> Self {
-        Self(AdaptiveReceiverPacketWindow::new(window_size, DEMOTE_AT as usize))
+        Self { window: AdaptiveReceiverPacketWindow::new(window_size, DEMOTE_AT as usize), window_size, base: 0 }
     }
 
     fn insert(&mut self, sequence: u32, value: u32) -> u64 {
-        match self.0.insert(sequence, value) {
+        match self.window.insert(sequence, value) {
             Ok(None) => NEW,
             Ok(Some(old)) => REPLACED | u64::from(old),
             Err(_) => REFUSED,
@@ -224,38 +283,55 @@ impl Window for Inlined {
     }
 
     fn remove(&mut self, sequence: u32) -> u64 {
-        found(self.0.remove(sequence))
+        found(self.window.remove(sequence))
     }
 
     fn get(&self, sequence: u32) -> u64 {
-        found(self.0.get(sequence).copied())
+        found(self.window.get(sequence).copied())
     }
 
     fn successor_after(&self, sequence: u32) -> u64 {
-        found(self.0.successor_after(sequence))
+        found(self.window.successor_after(sequence))
     }
 
     fn first_from(&self, sequence: u32) -> u64 {
-        found(self.0.first_from(sequence))
+        found(self.window.first_from(sequence))
     }
 
     fn each(&self, mut pair: impl FnMut(u32, u32)) {
-        for (sequence, value) in self.0.iter() {
+        for (sequence, value) in self.window.iter() {
             pair(sequence, *value);
         }
     }
 
     fn remove_range(&mut self, first: u32, last: u32) -> u64 {
-        self.0.remove_range(first, last).map_or(REFUSED, |removed| FOUND | removed as u64)
+        self.window.remove_range(first, last).map_or(REFUSED, |removed| FOUND | removed as u64)
     }
 
     fn release_retired(&mut self, budget: u32) -> u64 {
-        self.0.release_retired(budget as usize) as u64
+        self.window.release_retired(budget as usize) as u64
     }
 
     fn clear(&mut self) -> u64 {
-        self.0.clear();
-        CLEARED
+        self.window.clear();
+        NOTHING
+    }
+
+    fn set_base(&mut self, base: u32) -> u64 {
+        self.base = base;
+        NOTHING
+    }
+
+    fn take_front(&mut self) -> u64 {
+        let answer = self.remove(self.base);
+        if answer != ABSENT {
+            self.base = after(self.base, 1);
+        }
+        answer
+    }
+
+    fn point(&self) -> u64 {
+        scanned(self, self.base, self.window_size)
     }
 }
 
@@ -298,7 +374,7 @@ impl Window for Called {
     }
 
     fn each(&self, mut pair: impl FnMut(u32, u32)) {
-        let mut pairs = self.0 .0.iter();
+        let mut pairs = self.0.window.iter();
         while let Some((sequence, value)) = stepped(&mut pairs) {
             pair(sequence, *value);
         }
@@ -317,5 +393,18 @@ impl Window for Called {
     #[inline(never)]
     fn clear(&mut self) -> u64 {
         self.0.clear()
+    }
+
+    fn set_base(&mut self, base: u32) -> u64 {
+        self.0.set_base(base)
+    }
+
+    #[inline(never)]
+    fn take_front(&mut self) -> u64 {
+        self.0.take_front()
+    }
+
+    fn point(&self) -> u64 {
+        scanned(self, self.0.base, self.0.window_size)
     }
 }

@@ -1,6 +1,6 @@
 /*
  * The host forms against the calls by value: the same calls on two windows, refused ones included; after each call answers, counts,
- * headers and all lists are equal.
+ * headers and all lists are equal, and the header's point is the one that packet_window_get tells.
  */
 #include "packet_window.h"
 
@@ -40,10 +40,14 @@ static uint32_t below(uint32_t bound)
 #define MOST 64
 static unsigned given[MOST], refused[MOST];
 
-static packet_window_outcome keep(packet_window_step step)
+/* The furthest that a point was from its base. */
+static uint32_t furthest;
+
+/* What a call by value gave, as a host form gives it: the window keeps the header. */
+static packet_window_outcome keep(window *w, packet_window_step step)
 {
     packet_window_outcome outcome;
-    by_value.header = step.window;
+    w->header = step.window;
     outcome.answer = step.answer;
     outcome.count = step.count;
     return outcome;
@@ -61,30 +65,51 @@ static int same(packet_window_outcome a, packet_window_outcome b)
 static int insert(uint32_t sequence, uint32_t store, size_t places)
 {
     packet_window_outcome a = packet_window_host_insert(&host.header, LISTS(host), host.returned, places, sequence, store);
-    return same(a, keep(packet_window_insert(by_value.header, LISTS(by_value), by_value.returned, places, sequence, store)));
+    return same(a, keep(&by_value, packet_window_insert(by_value.header, LISTS(by_value), by_value.returned, places, sequence, store)));
 }
 
 static int remove_one(uint32_t sequence)
 {
     packet_window_outcome a = packet_window_host_remove(&host.header, LISTS(host), sequence);
-    return same(a, keep(packet_window_remove(by_value.header, LISTS(by_value), sequence)));
+    return same(a, keep(&by_value, packet_window_remove(by_value.header, LISTS(by_value), sequence)));
 }
 
 static int release_retired(uint32_t budget)
 {
     packet_window_outcome a = packet_window_host_release_retired(&host.header, LISTS(host), LIST(host.returned), budget);
-    return same(a, keep(packet_window_release_retired(by_value.header, LISTS(by_value), LIST(by_value.returned), budget)));
+    return same(a, keep(&by_value, packet_window_release_retired(by_value.header, LISTS(by_value), LIST(by_value.returned), budget)));
 }
 
 /* A range is removed by value on both, so that there is something to release. */
 static int remove_range(uint32_t first, uint32_t last)
 {
-    packet_window_step step = packet_window_remove_range(host.header, LISTS(host), LIST(host.returned), first, last);
-    packet_window_outcome a;
-    host.header = step.window;
-    a.answer = step.answer;
-    a.count = step.count;
-    return same(a, keep(packet_window_remove_range(by_value.header, LISTS(by_value), LIST(by_value.returned), first, last)));
+    packet_window_outcome a = keep(&host, packet_window_remove_range(host.header, LISTS(host), LIST(host.returned), first, last));
+    return same(a, keep(&by_value, packet_window_remove_range(by_value.header, LISTS(by_value), LIST(by_value.returned), first, last)));
+}
+
+/* The base is set, and the front taken, by value on both, so that the host forms have a point to keep. */
+static int set_base(uint32_t base)
+{
+    packet_window_outcome a = keep(&host, packet_window_set_base(host.header, LISTS(host), base));
+    return same(a, keep(&by_value, packet_window_set_base(by_value.header, LISTS(by_value), base)));
+}
+
+static int take_front(void)
+{
+    packet_window_outcome a = keep(&host, packet_window_take_front(host.header, LISTS(host)));
+    return same(a, keep(&by_value, packet_window_take_front(by_value.header, LISTS(by_value))));
+}
+
+/* The header's point is the first sequence from the base that packet_window_get does not find. */
+static int right_point(void)
+{
+    packet_window_header w = host.header;
+    uint32_t reach = 0;
+    while (reach < WINDOW_SIZE && packet_window_get(w, LISTS(host), (w.base + reach) & 0x7fffffffu).answer.code == PACKET_WINDOW_FOUND)
+        reach++;
+    if (furthest < reach)
+        furthest = reach;
+    return w.point == ((w.base + reach) & 0x7fffffffu);
 }
 
 static int call(void)
@@ -94,6 +119,12 @@ static int call(void)
     switch (below(20)) {
     case 0:
         return below(10) != 0 || remove_range(sequence, sequence + below(WINDOW_SIZE));
+    case 5:
+    case 6:
+    case 7:
+        return insert(host.header.point, below(1u << 31), places);
+    case 8:
+        return below(10) != 0 ? take_front() : set_base(below(20) == 0 ? 0x80000000u : sequence);
     case 1:
         return release_retired(below(260));
     case 2:
@@ -115,10 +146,14 @@ int main(void)
             printf("call %u: the host form and the call by value differ\n", (unsigned)number);
             return 1;
         }
+        if (!right_point()) {
+            printf("call %u: the point is not right\n", (unsigned)number);
+            return 1;
+        }
     }
     if (!given[PACKET_WINDOW_NEW] || !given[PACKET_WINDOW_REPLACED] || !given[PACKET_WINDOW_ABSENT] || !given[PACKET_WINDOW_FOUND] ||
         !given[PACKET_WINDOW_RELEASED] || !refused[PACKET_WINDOW_REFUSED_OCCUPIED] || !refused[PACKET_WINDOW_REFUSED_SHORT_MEMORY] ||
-        !refused[PACKET_WINDOW_REFUSED_BUDGET]) {
+        !refused[PACKET_WINDOW_REFUSED_BUDGET] || !refused[PACKET_WINDOW_REFUSED_BASE] || furthest < 10) {
         printf("an answer was never given\n");
         return 1;
     }

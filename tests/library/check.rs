@@ -1,4 +1,4 @@
-//! `check` of the static library against document 01's clauses, in one process.
+//! `check` of the static library against the papers' clauses, in one process.
 //!
 //! `check FIRST LAST CALLS`: one list of calls for each seed. After each call its state must be sound; then a
 //! copy is damaged, by a change that is aimed at one clause or by any, and check must refuse it 7 just if a clause does not hold.
@@ -108,6 +108,9 @@ fn any_state(random: &mut Random, window_size: u32) -> State {
     state.blocks.iter_mut().for_each(|word| *word = pick(()));
     state.header.nonempty_summary = pick(());
     state.header.retired_blocks = pick(());
+    let point = pick(()) as u32;
+    state.header.base = random.pick(&[0, 5, window_size, 1 << 31, u32::MAX]);
+    state.header.point = random.pick(&[state.header.base, point]);
     state
 }
 

@@ -1,9 +1,9 @@
 //! The static library against the source, in one process.
 //!
 //! `compare FIRST LAST CALLS [--large|--small]`: one list of calls for each seed, with more of stranger's among them. Each call is
-//! made on the source and on the library: the answer, the returned values in order, the header, all block words, and words and
-//! cells in use of the pages that the call may have changed are compared after it, those of all pages after each call on windows
-//! up to 512 and now and then on larger ones. Half of the calls that have a host form are made by it.
+//! made on the source and on the library: the answer, the returned values in order, the header with its base and point, all block
+//! words, and words and cells in use of the pages that the call may have changed are compared after it, those of all pages after each
+//! call on windows up to 512 and now and then on larger ones. Half of the calls that have a host form are made by it.
 
 /// The source's work counters stay out.
 macro_rules! count_work {
@@ -20,6 +20,7 @@ mod library;
 #[path = "../../oracle/src/line.rs"]
 mod line;
 mod program;
+#[allow(dead_code)] // the oracle uses the rest
 #[path = "../../oracle/src/reference.rs"]
 mod reference;
 #[path = "../../oracle/src/value.rs"]
@@ -41,6 +42,9 @@ struct Counts {
     hosted: u64,
     refused: u64,
     strangers: u64,
+    /// Fronts taken, and calls after which the point is past the base.
+    fronts: u64,
+    reached: u64,
 }
 
 struct Both {
@@ -59,7 +63,12 @@ impl Both {
             Call::Insert { sequence, .. } | Call::Exchange { sequence, .. } | Call::Remove(sequence) => {
                 vec![sequence as usize / 64 % count]
             }
-            Call::New { .. } | Call::Get(_) | Call::SuccessorAfter(_) | Call::FirstFrom(_) | Call::Stranger { .. } | Call::Iter => Vec::new(),
+            Call::TakeFront => {
+                let base = self.source.header().base;
+                [base, base.wrapping_sub(1)].map(|sequence| sequence as usize / 64 % count).to_vec()
+            }
+            Call::New { .. } | Call::Get(_) | Call::SuccessorAfter(_) | Call::FirstFrom(_) => Vec::new(),
+            Call::Stranger { .. } | Call::Iter | Call::SetBase(_) => Vec::new(),
         }
     }
 
@@ -74,6 +83,9 @@ impl Both {
         counts.compared += 1;
         counts.hosted += u64::from(host);
         counts.strangers += u64::from(matches!(answer, Answer::Pair { .. }));
+        counts.fronts += u64::from(call == Call::TakeFront && answer != Answer::Absent);
+        let header = self.library.parts().0;
+        counts.reached += u64::from(header.point != header.base);
         let all = self.source.page_count() <= 8 || random.percent(1);
         let pages = self.pages(call, all);
         if let Some(difference) = self.library.differs(self.source.as_ref(), pages.into_iter()) {
@@ -131,11 +143,14 @@ fn run(seeds: RangeInclusive<u64>, calls: u32, options: Options) -> Result<Strin
     for seed in seeds {
         list(seed, calls, options, &mut counts)?;
     }
-    let Counts { compared, hosted, refused, strangers } = counts;
-    if hosted == 0 || refused == 0 || strangers == 0 {
-        return Err("no host form was compared, no short list refused, or no stranger found".to_string());
+    let Counts { compared, hosted, refused, strangers, fronts, reached } = counts;
+    if hosted == 0 || refused == 0 || strangers == 0 || fronts == 0 || reached == 0 {
+        return Err("no host form compared, no short list refused, no stranger found, no front taken or no point past its base".to_string());
     }
-    Ok(format!("{compared} calls as the source, {hosted} by host forms, {refused} with a short list refused 6, {strangers} strangers found"))
+    Ok(format!(
+        "{compared} calls as the source, {hosted} by host forms, {refused} with a short list refused 6, {strangers} strangers found, \
+         {fronts} fronts taken, {reached} points past their base"
+    ))
 }
 
 fn main() -> ExitCode {

@@ -1,7 +1,7 @@
 //! Changes to a copy of a sound state, most of them aimed at one clause.
 
 use crate::calls::Random;
-use crate::soundness::{bit, State};
+use crate::soundness::{bit, State, HALF};
 
 fn below(random: &mut Random, end: usize) -> usize {
     random.below(end as u32) as usize
@@ -164,6 +164,41 @@ fn block_mark(random: &mut Random, state: &mut State) -> Option<()> {
     Some(())
 }
 
+fn base_of_32_bits(random: &mut Random, state: &mut State) -> Option<()> {
+    state.header.base |= HALF;
+    if random.percent(20) {
+        state.header.point |= HALF;
+    }
+    Some(())
+}
+
+/// Another base: the point is then mostly that of the old one.
+fn another_base(random: &mut Random, state: &mut State) -> Option<()> {
+    let base = state.header.base;
+    let point = state.header.point;
+    state.header.base = match random.below(4) {
+        0 => base.wrapping_add(1),
+        1 => base.wrapping_sub(1),
+        2 => point,
+        _ => random.any(),
+    } % HALF;
+    Some(())
+}
+
+fn another_point(random: &mut Random, state: &mut State) -> Option<()> {
+    let point = state.header.point;
+    let past = state.header.base.wrapping_add(state.header.window_size) % HALF;
+    state.header.point = match random.below(6) {
+        0 => point.wrapping_add(1),
+        1 => point.wrapping_sub(1),
+        2 => point | HALF,
+        3 => state.header.base,
+        4 => past,
+        _ => random.any(),
+    };
+    Some(())
+}
+
 fn any_page_word(random: &mut Random, state: &mut State) -> Option<()> {
     let word = below(random, 3 * state.page_count());
     state.pages[word] ^= 1 << below(random, 64);
@@ -184,7 +219,7 @@ fn any_sequence(random: &mut Random, state: &mut State) -> Option<()> {
 
 type Damage = fn(&mut Random, &mut State) -> Option<()>;
 
-const DAMAGES: [Damage; 22] = [
+const DAMAGES: [Damage; 25] = [
     kind_3,
     kind_0_with_values,
     kind_1_without_a_value,
@@ -204,6 +239,9 @@ const DAMAGES: [Damage; 22] = [
     bit_past_the_last_page,
     bit_past_the_last_block,
     block_mark,
+    base_of_32_bits,
+    another_base,
+    another_point,
     any_page_word,
     any_block_word,
     any_sequence,

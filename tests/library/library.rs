@@ -15,6 +15,8 @@ impl From<WindowHeader> for Header {
             len: header.len,
             retired_held: header.retired_held,
             release_cursor: header.release_cursor,
+            base: header.base,
+            point: header.point,
             nonempty_summary: header.nonempty_summary,
             retired_blocks: header.retired_blocks,
             promotions: header.promotions,
@@ -67,7 +69,7 @@ fn with_list(call: Call) -> bool {
     match call {
         Call::Insert { .. } | Call::RemoveRange { .. } | Call::ReleaseRetired(_) | Call::Clear | Call::ClearBounded(_) => true,
         Call::New { .. } | Call::Get(_) | Call::Remove(_) | Call::SuccessorAfter(_) | Call::FirstFrom(_) => false,
-        Call::Exchange { .. } | Call::Stranger { .. } | Call::Iter => false,
+        Call::Exchange { .. } | Call::Stranger { .. } | Call::Iter | Call::SetBase(_) | Call::TakeFront => false,
     }
 }
 
@@ -181,6 +183,8 @@ impl Library {
                 Call::Insert { sequence, value } => packet_window_insert(w, s, sl, v, vl, p, pl, b, bl, r, rl, sequence, value),
                 Call::Get(sequence) => packet_window_get(w, s, sl, v, vl, p, pl, b, bl, sequence),
                 Call::Remove(sequence) => packet_window_remove(w, s, sl, v, vl, p, pl, b, bl, sequence),
+                Call::SetBase(base) => packet_window_set_base(w, s, sl, v, vl, p, pl, b, bl, base),
+                Call::TakeFront => packet_window_take_front(w, s, sl, v, vl, p, pl, b, bl),
                 Call::SuccessorAfter(sequence) => packet_window_successor_after(w, s, sl, v, vl, p, pl, b, bl, sequence),
                 Call::FirstFrom(sequence) => packet_window_first_from(w, s, sl, v, vl, p, pl, b, bl, sequence),
                 Call::Exchange { sequence, value } => packet_window_exchange(w, s, sl, v, vl, p, pl, b, bl, sequence, value),

@@ -1,4 +1,4 @@
-//! Document 01's sentence on `check`, clause by clause, over a header and its lent lists.
+//! Document 01's sentence on `check` and document 02's on the base, clause by clause, over a header and its lent lists.
 
 use crate::declared::Header;
 use std::collections::BTreeSet;
@@ -35,9 +35,11 @@ pub enum Clause {
     BitsPastTheLastPage,
     BitsPastTheLastBlock,
     NoneHeldMeansNoMark,
+    BaseHas31Bits,
+    PointIsRight,
 }
 
-pub const CLAUSES: [Clause; 19] = [
+pub const CLAUSES: [Clause; 21] = [
     Clause::Kinds,
     Clause::NoneIsEmpty,
     Clause::OthersAreOccupied,
@@ -57,7 +59,11 @@ pub const CLAUSES: [Clause; 19] = [
     Clause::BitsPastTheLastPage,
     Clause::BitsPastTheLastBlock,
     Clause::NoneHeldMeansNoMark,
+    Clause::BaseHas31Bits,
+    Clause::PointIsRight,
 ];
+
+pub const HALF: u32 = 1 << 31;
 
 pub fn bit(word: u64, at: usize) -> bool {
     at < 64 && word >> at & 1 == 1
@@ -107,6 +113,19 @@ impl State {
     /// The values of pages that are retired, or of those that are not.
     fn values_of(&self, pages: impl Iterator<Item = usize>, retired: bool) -> u64 {
         pages.filter(|&page| self.retired(page) == retired).map(|page| u64::from(self.occupied(page).count_ones())).sum()
+    }
+
+    /// Whether a page that is not retired has the sequence in a cell in use.
+    fn live(&self, sequence: u32) -> bool {
+        let page = sequence as usize % self.capacity() / 64;
+        !self.retired(page) && bits(self.filled(page)).any(|cell| self.sequences[64 * page + cell] == sequence)
+    }
+
+    /// The first sequence from the base that is not live, at most window_size from it, modulo 2^31.
+    fn point(&self) -> u32 {
+        let after = |steps: u32| self.header.base.wrapping_add(steps) % HALF;
+        let reach = (0..self.header.window_size).find(|&steps| !self.live(after(steps)));
+        after(reach.unwrap_or(self.header.window_size))
     }
 
     fn page(&self, page: usize, broken: &mut BTreeSet<Clause>) {
@@ -163,6 +182,8 @@ impl State {
         let past = |word: u64| bits(word).any(|at| at >= blocks);
         fails(Clause::BitsPastTheLastBlock, !past(header.nonempty_summary) && !past(header.retired_blocks));
         fails(Clause::NoneHeldMeansNoMark, header.retired_held != 0 || header.retired_blocks == 0);
+        fails(Clause::BaseHas31Bits, header.base < HALF);
+        fails(Clause::PointIsRight, header.point == self.point());
         broken
     }
 }

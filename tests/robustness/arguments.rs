@@ -38,7 +38,19 @@ impl Arguments {
                 random.pick(sequences)
             }
             15..=17 => edge(random, window_size),
+            18 => random.pick(&[memory.header.base, memory.header.point]),
             _ => random.any(),
+        }
+    }
+
+    /// A base: mostly below 2^31, where a run of inserts begins or near what the window holds.
+    fn set_base(&self, random: &mut Random, memory: &mut Memory) -> u32 {
+        match random.below(10) {
+            0 => random.pick(&[HALF, HALF + 1, u32::MAX]),
+            1..=3 => self.base % HALF,
+            4 => self.base.wrapping_add(self.next) % HALF,
+            5 => memory.header.point,
+            _ => self.sequence(random, memory) % HALF,
         }
     }
 
@@ -93,6 +105,7 @@ impl Arguments {
             Numbers::Budget => [Self::budget(random), 0, 0],
             Numbers::Cell if random.percent(80) => [random.below(capacity(memory.header.window_size) as u32), 0, 0],
             Numbers::Cell => [edge(random, memory.header.window_size), 0, 0],
+            Numbers::Base => [self.set_base(random, memory), 0, 0],
             Numbers::None => [0; 3],
         }
     }

@@ -53,9 +53,10 @@ pub fn fill_around(random: &mut Random, memory: &mut Memory) {
 fn fill_header(random: &mut Random, memory: &mut Memory, kind: Kind) {
     // Every field is named, so that a new one is not left out.
     let Header {
-        window_size: _, n, demote_at, len, retired_held, release_cursor, nonempty_summary, retired_blocks, promotions, demotions,
+        window_size: _, n, demote_at, len, retired_held, release_cursor, base, point,
+        nonempty_summary, retired_blocks, promotions, demotions,
     } = &mut memory.header;
-    for count in [len, retired_held, release_cursor] {
+    for count in [len, retired_held, release_cursor, base, point] {
         *count = word(random, kind) as u32;
     }
     for field in [nonempty_summary, retired_blocks, promotions, demotions] {
@@ -65,8 +66,8 @@ fn fill_header(random: &mut Random, memory: &mut Memory, kind: Kind) {
     *demote_at = random.below(*n + 1);
 }
 
-/// The lists' words of one kind. Most page kinds are small, and half of the time the sequences stand at their own positions, so that a
-/// call goes on past its first look.
+/// The lists' words of one kind. Most page kinds are small, half of the time the sequences stand at their own positions, and half of the
+/// time the base is one of them, so that a call goes on past its first look.
 pub fn fill(random: &mut Random, memory: &mut Memory, kind: Kind) {
     fill_header(random, memory, kind);
     let capacity = capacity(memory.header.window_size) as u32;
@@ -74,6 +75,9 @@ pub fn fill(random: &mut Random, memory: &mut Memory, kind: Kind) {
     for (cell, sequence) in (0..).zip(memory.lists[SEQUENCES].numbers()) {
         let any = word(random, kind) as u32;
         *sequence = if placed { any.wrapping_mul(capacity).wrapping_add(cell) } else { any };
+    }
+    if random.percent(50) {
+        memory.header.base = random.pick(memory.lists[SEQUENCES].numbers()) & 0x7fff_ffff;
     }
     for (at, page) in memory.lists[PAGES].words().iter_mut().enumerate() {
         *page = if at % 3 == 0 && random.percent(80) { random.below(4).into() } else { word(random, kind) };
@@ -185,6 +189,17 @@ fn change_cursor(random: &mut Random, memory: &mut Memory) {
     }
 }
 
+/// Another base, which may be where a value is, or another point.
+fn change_base(random: &mut Random, memory: &mut Memory) {
+    let header = &mut memory.header;
+    match random.below(4) {
+        0 => header.base = header.point,
+        1 => header.base = random.pick(memory.lists[SEQUENCES].numbers()),
+        2 => change_number(random, &mut header.base),
+        _ => change_number(random, &mut header.point),
+    }
+}
+
 fn change_masks(random: &mut Random, memory: &mut Memory) {
     let header = &mut memory.header;
     if random.percent(50) {
@@ -206,7 +221,7 @@ fn change_limits(random: &mut Random, memory: &mut Memory) {
 
 type Change = fn(&mut Random, &mut Memory);
 
-const CHANGES: [Change; 9] = [
+const CHANGES: [Change; 10] = [
     change_page,
     change_page,
     change_block,
@@ -214,6 +229,7 @@ const CHANGES: [Change; 9] = [
     exchange_pages,
     change_count,
     change_cursor,
+    change_base,
     change_masks,
     change_limits,
 ];

@@ -117,7 +117,7 @@ pub static FAULTS: &[Fault] = &[
         }
     }),
     fault!("refusal-0", "answers NumberedAnswer { code: 7, first: 0", |call, lent, step| step.answer = refusal(0)),
-    fault!("refusal-9", "answers NumberedAnswer { code: 7, first: 9", |call, lent, step| step.answer = refusal(9)),
+    fault!("refusal-10", "answers NumberedAnswer { code: 7, first: 10", |call, lent, step| step.answer = refusal(10)),
     fault!("refuses-6-what-it-takes", "refuses Some(6)", |call, lent, step| {
         if taken(call, "exchange") {
             step.answer = refusal(SHORT_MEMORY);
@@ -156,6 +156,26 @@ pub static FAULTS: &[Fault] = &[
     fault!("another-window-size", "header Header", |call, lent, step| {
         if taken(call, "insert") {
             step.window.window_size ^= 1;
+        }
+    }),
+    fault!("another-base", "header Header", |call, lent, step| {
+        if taken(call, "remove") {
+            step.window.base ^= 1;
+        }
+    }),
+    fault!("base-that-does-not-move", "header Header", |call, lent, step| {
+        if taken(call, "take_front") {
+            step.window.base = call.header.base;
+        }
+    }),
+    fault!("more-than-the-base-set", "header Header", |call, lent, step| {
+        if taken(call, "set_base") {
+            step.window.demotions ^= 1;
+        }
+    }),
+    fault!("point-that-does-not-move", "check answers", |call, lent, step| {
+        if taken(call, "insert") {
+            step.window.point = call.header.point;
         }
     }),
     fault!("count-without-a-list", "count 1, at most 0", |call, lent, step| {

@@ -1,4 +1,4 @@
-//! A window over the static library beside document 01's plain table and the ledger of its stores. Every answer is held against the
+//! A window over the static library beside the papers' plain table and the ledger of its stores. Every answer is held against the
 //! table, every store that is handed back against the ledger.
 
 use crate::calls::Random;
@@ -26,6 +26,10 @@ pub enum Fault {
     NoneHeld,
     /// A release visit does nothing.
     Idle,
+    /// The point stays where it was.
+    StillPoint,
+    /// Taking the front leaves the base.
+    StillBase,
 }
 
 crate::counted! {
@@ -38,6 +42,10 @@ crate::counted! {
         occupied: "inserts refused 4",
         removed: "values removed",
         exchanged: "values exchanged",
+        fronts: "values taken from the front",
+        bases: "bases set",
+        bases_refused: "bases refused 9",
+        points: "calls that left the point past the base",
         ranges: "ranges removed",
         ranges_refused: "ranges refused 5",
         emptied: "values retired by ranges and clears",
@@ -58,6 +66,7 @@ pub struct Head {
     pub tally: Tally,
     memory: Memory,
     table: Vec<Option<(u32, u32)>>,
+    base: u32,
     seed: u64,
     /// Calls are made by their host forms, where there is one.
     by_start: bool,
@@ -83,7 +92,7 @@ impl Head {
         let ledger = Ledger::new(stores);
         let table = vec![None; capacity(window[0])];
         let by_start = random.percent(50);
-        let mut head = Self { ledger, tally: Tally::default(), memory, table, seed, by_start, fault, late: 0 };
+        let mut head = Self { ledger, tally: Tally::default(), memory, table, base: 0, seed, by_start, fault, late: 0 };
         head.renew(window)?;
         Ok(head)
     }
@@ -97,6 +106,7 @@ impl Head {
         self.tally.promotions += self.memory.header.promotions;
         self.tally.demotions += self.memory.header.demotions;
         let answer = self.make("new", window)?;
+        self.base = 0;
         demand(answer.code == DONE, || format!("new {window:?} answers {answer:?}"))
     }
 
@@ -116,6 +126,8 @@ impl Head {
             }
             Some(Fault::Late) if removed => std::mem::swap(&mut step.answer.first, &mut self.late),
             Some(Fault::NoneHeld) => step.window.retired_held = 0,
+            Some(Fault::StillPoint) => step.window.point = self.memory.header.point,
+            Some(Fault::StillBase) if name == "take_front" => step.window.base = self.memory.header.base,
             _ => (),
         }
     }
@@ -154,11 +166,24 @@ impl Head {
         Ok(step.answer)
     }
 
-    /// The header's counts are those of the ledger.
-    fn counted(&self) -> Result<(), String> {
+    /// The header's counts are those of the ledger, its base and point those of the table.
+    fn counted(&mut self) -> Result<(), String> {
         let counts = (self.memory.header.len, self.memory.header.retired_held);
         let kept = (self.ledger.live(), self.ledger.retired());
-        demand(counts == kept, || format!("len and retired_held {counts:?}, the ledger's {kept:?}"))
+        demand(counts == kept, || format!("len and retired_held {counts:?}, the ledger's {kept:?}"))?;
+        self.pointed()
+    }
+
+    /// The base is the table's, and the point is the first sequence from it that is not live. That those before it are live is looked
+    /// for the seldomer the more they are, and each time of the last ones.
+    fn pointed(&mut self) -> Result<(), String> {
+        let Header { base, point, window_size, .. } = self.memory.header;
+        let reach = range_count(base, point) - 1;
+        let ends = reach == window_size || (reach < window_size && self.store_of(point).is_none());
+        let from = if self.tally.calls % u64::from(reach + 16) == 0 { 0 } else { reach.saturating_sub(8) };
+        let live = ends && (from..reach).all(|steps| self.store_of(after_base(base, steps)).is_some());
+        self.tally.points += u64::from(reach > 0);
+        demand(base == self.base && live, || format!("base and point {base} {point}, the table's base {}", self.base))
     }
 
     fn position(&self, sequence: u32) -> usize {
@@ -212,6 +237,32 @@ impl Head {
             self.table[position] = None;
             self.ledger.leaves(store)?;
             self.tally.removed += 1;
+        }
+        self.counted().map(|()| store.is_some())
+    }
+
+    /// Refused if it has its top bit.
+    pub fn set_base(&mut self, base: u32) -> Result<(), String> {
+        let taken = base >> 31 == 0;
+        let answer = self.make("set_base", [base, 0, 0])?;
+        let wanted = if taken { (DONE, 0) } else { (REFUSED, BASE) };
+        demand((answer.code, answer.first) == wanted, || format!("set_base {base} answers {answer:?}, not {wanted:?}"))?;
+        let tally = if taken { &mut self.tally.bases } else { &mut self.tally.bases_refused };
+        *tally += 1;
+        self.base = if taken { base } else { self.base };
+        self.counted()
+    }
+
+    /// Whether there was a value.
+    pub fn take_front(&mut self) -> Result<bool, String> {
+        let (base, store, position) = (self.base, self.store_of(self.base), self.position(self.base));
+        let answer = self.make("take_front", [0; 3])?;
+        demand(Self::is_store(answer, store), || format!("take_front at {base} answers {answer:?}, not {store:?}"))?;
+        if let Some(store) = store {
+            self.table[position] = None;
+            self.base = after_base(base, 1);
+            self.ledger.leaves(store)?;
+            self.tally.fronts += 1;
         }
         self.counted().map(|()| store.is_some())
     }

@@ -33,11 +33,11 @@ impl Made<'_> {
         self.step.answer
     }
 
-    /// The code is one that the call has, or a refusal from 1 to 8; numbers that the code does not use are 0.
+    /// The code is one that the call has, or a refusal from 1 to 9; numbers that the code does not use are 0.
     fn readable(&self) -> Result<(), String> {
         let answer @ NumberedAnswer { code, first, second, third } = self.answer();
         let own = self.call.operation.codes.contains(&code);
-        demand(own || (code == REFUSED && (1..=8).contains(&first)), || format!("answers {answer:?}"))?;
+        demand(own || (code == REFUSED && (1..=9).contains(&first)), || format!("answers {answer:?}"))?;
         let unused = &[first, second, third][USED[code as usize]..];
         demand(unused.iter().all(|&number| number == 0), || format!("answers {answer:?}, with numbers that are not used"))
     }
@@ -76,9 +76,20 @@ impl Made<'_> {
             after == before
         } else {
             let fixed = |header: Header| (header.window_size, header.n, header.demote_at);
-            !self.sound || fixed(after) == fixed(before)
+            !self.sound || (fixed(after) == fixed(before) && self.base())
         };
         demand(kept, || format!("header {after:?}"))
+    }
+
+    /// On a sound state: set_base changes the base and the point alone, taking a value from the front moves the base by one, and every
+    /// other call leaves it.
+    fn base(&self) -> bool {
+        let (before, after) = (self.call.header, self.step.window);
+        match self.call.operation.name {
+            "set_base" => after == Header { base: self.call.numbers[0], point: after.point, ..before },
+            "take_front" if self.answer().code == FOUND => after.base == after_base(before.base, 1),
+            _ => after.base == before.base,
+        }
     }
 
     fn count(&self) -> Result<(), String> {
@@ -123,7 +134,8 @@ impl Made<'_> {
     fn conserved(&self) -> Result<(), String> {
         let held = |header: Header| u64::from(header.len) + u64::from(header.retired_held);
         let entered = u64::from(self.answer().code == NEW);
-        let removed = u64::from(self.call.operation.call() == "remove" && self.answer().code == FOUND);
+        let removes = matches!(self.call.operation.call(), "remove" | "take_front");
+        let removed = u64::from(removes && self.answer().code == FOUND);
         let before = held(self.call.header) + entered;
         let after = held(self.step.window) + removed + u64::from(self.step.count);
         demand(before == after, || format!("{before} values held and entered, {after} held and handed back"))

@@ -8,6 +8,7 @@ pub const RANGE_COUNT: u32 = 5;
 pub const SHORT_MEMORY: u32 = 6;
 pub const UNSOUND: u32 = 7;
 pub const BUDGET: u32 = 8;
+pub const BASE: u32 = 9;
 
 pub const LARGEST_BUDGET: u32 = 256;
 
@@ -21,6 +22,7 @@ pub enum Numbers {
     Range,
     Budget,
     Cell,
+    Base,
     None,
 }
 
@@ -115,6 +117,8 @@ pub static OPERATIONS: &[Operation] = &[
     operation("check", plain!(packet_window_check), Numbers::None, &[], &[DONE]),
     operation("exchange", plain!(packet_window_exchange, 0, 1), Numbers::SequenceAndValue, &[VALUES], &[ABSENT, FOUND]),
     operation("remove", plain!(packet_window_remove, 0), Numbers::Sequence, WINDOW, &[ABSENT, FOUND]),
+    operation("set_base", plain!(packet_window_set_base, 0), Numbers::Base, &[], &[DONE]),
+    operation("take_front", plain!(packet_window_take_front), Numbers::None, WINDOW, &[ABSENT, FOUND]),
     operation("insert", listed!(packet_window_insert, 0, 1), Numbers::SequenceAndValue, ALL, &[NEW, REPLACED]),
     operation("remove_range", listed!(packet_window_remove_range, 0, 1), Numbers::Range, ALL, &[FOUND]),
     operation("release_retired", listed!(packet_window_release_retired, 0), Numbers::Budget, RELEASING, &[RELEASED]),
@@ -159,9 +163,9 @@ impl Operation {
         self.name == "check"
     }
 
-    /// It takes no list to write.
+    /// It takes no list to write, and leaves the header.
     pub fn only_reads(&self) -> bool {
-        self.writes.is_empty()
+        self.writes.is_empty() && self.numbers != Numbers::Base
     }
 }
 
@@ -185,6 +189,11 @@ fn limits(window_size: u32, n: u32, demote_at: u32) -> Option<u32> {
     (demote_at > n).then_some(3)
 }
 
+/// The sequence so many after a base.
+pub fn after_base(base: u32, steps: u32) -> u32 {
+    base.wrapping_add(steps) & 0x7fff_ffff
+}
+
 /// The positions of a range.
 pub fn range_count(first: u32, last: u32) -> u32 {
     (last.wrapping_sub(first) & 0x7fff_ffff) + 1
@@ -198,7 +207,7 @@ impl Call {
         (0..taken).any(|list| self.lengths[list] < named[list])
     }
 
-    /// The refusal that header, lengths and numbers decide, by document 01's 'Refusal by operation'.
+    /// The refusal that header, lengths and numbers decide, by document 01's 'Refusal by operation' and document 02.
     pub fn refusal(&self) -> Option<u32> {
         let [first, second, third] = self.numbers;
         let Header { window_size, n, demote_at, .. } = self.header;
@@ -211,6 +220,7 @@ impl Call {
         match self.operation.numbers {
             Numbers::Range => (range_count(first, second) > window_size).then_some(RANGE_COUNT),
             Numbers::Budget => (first > LARGEST_BUDGET).then_some(BUDGET),
+            Numbers::Base => (first >> 31 == 1).then_some(BASE),
             _ => None,
         }
     }

@@ -59,6 +59,8 @@ fn make(head: &mut Head, random: &mut Random, call: Call) -> Result<(), String> 
         Call::ReleaseRetired(budget) => head.release(budget),
         Call::Clear => head.clear(),
         Call::Iter => head.list(),
+        Call::SetBase(base) => head.set_base(base),
+        Call::TakeFront => head.take_front().map(|_| ()),
     }
 }
 

@@ -1,4 +1,5 @@
-//! One show: packets sent, lost, late, out of order and duplicated; played, skipped and dropped by ranges; the window cleared at the end.
+//! One show: packets sent, lost, late, out of order and duplicated; played, taken from the front, skipped and dropped by ranges; the
+//! window cleared at the end.
 
 use crate::calls::Random;
 use crate::head::Head;
@@ -87,6 +88,8 @@ pub struct Show {
     duplicates: u32,
     /// How many packets are dropped by one range, where packets are not removed one by one; 0 if they are.
     batch: u32,
+    /// The window's base is the packet to be played, which is taken from the front. Not where numbers have 32 bits, which no base has.
+    front: bool,
     /// Packets between release visits, and their budget.
     visit_every: u64,
     budget: u32,
@@ -107,6 +110,8 @@ impl Show {
         let wrap = random.pick(&[Wrap::At31, Wrap::At32]);
         let first = wrap.last() - random.below(20_000);
         let delay = 1 + random.below(window_size - window_size / 8);
+        let batch = random.pick(&[0, 0, 1, 50, 64, 300, window_size]).min(window_size);
+        let front = batch == 0 && wrap == Wrap::At31 && random.percent(70);
         Self {
             traffic: Traffic::default(),
             wrap,
@@ -116,7 +121,8 @@ impl Show {
             loss: random.pick(&[0, 5, 50, 200]),
             disorder: random.pick(&[0, 20, 300]),
             duplicates: random.pick(&[0, 10, 100]),
-            batch: random.pick(&[0, 1, 50, 64, 300, window_size]).min(window_size),
+            batch,
+            front,
             visit_every: random.pick(&[1, 7, 100, 5000]),
             budget: random.pick(&[1, 2, 16, 64, 255, 256]),
             next: first,
@@ -201,7 +207,16 @@ impl Show {
         }
     }
 
-    /// The packet whose time has come: read, and removed unless ranges are dropped.
+    /// The window's base where the show is.
+    fn follow(&self, head: &mut Head) -> Result<(), String> {
+        if self.front {
+            head.set_base(self.play)
+        } else {
+            Ok(())
+        }
+    }
+
+    /// The packet whose time has come: read, and removed or taken unless ranges are dropped.
     fn play_one(&mut self, random: &mut Random, head: &mut Head) -> Result<(), String> {
         let sequence = self.play;
         self.play = self.wrap.add(sequence, 1);
@@ -210,6 +225,11 @@ impl Show {
             if let Some(store) = head.ledger.take(random) {
                 head.exchange(sequence, store)?;
             }
+        }
+        if self.front {
+            let there = head.take_front()?;
+            self.traffic.absent += u64::from(!there);
+            return if there { Ok(()) } else { self.follow(head) };
         }
         if self.batch == 0 {
             let there = head.remove(sequence)?;
@@ -231,7 +251,7 @@ impl Show {
             head.remove_range(self.play, self.wrap.add(self.play, ahead - 1))?;
             self.play = found;
         }
-        Ok(())
+        self.follow(head)
     }
 
     /// What happens now and then.
@@ -245,6 +265,7 @@ impl Show {
             13..=14 => head.release_all(random),
             15 => head.check(),
             16 => self.jump(random, head),
+            17..=18 if !self.front => head.set_base(self.play),
             _ => Ok(()),
         }
     }
@@ -262,7 +283,7 @@ impl Show {
         }
         self.next = self.wrap.add(self.next, random.below(3 * self.window_size));
         self.play = self.next;
-        Ok(())
+        self.follow(head)
     }
 
     fn tick(&mut self, random: &mut Random, head: &mut Head) -> Result<(), String> {
@@ -305,6 +326,7 @@ impl Show {
     }
 
     pub fn run(&mut self, random: &mut Random, head: &mut Head) -> Result<(), String> {
+        self.follow(head)?;
         for _ in 0..self.packets {
             self.tick(random, head)?;
         }

@@ -81,7 +81,7 @@ fn season(seed: u64, mappings: &mut Mappings, totals: &mut Totals, fault: Option
 }
 
 /// Each wrong end of a call, and words of what is said of it.
-const FAULTS: [(Fault, &str); 7] = [
+const FAULTS: [(Fault, &str); 9] = [
     (Fault::Twice, "is Free, not Retired"),
     (Fault::Never, "the ledger's"),
     (Fault::Another, "not Retired"),
@@ -89,6 +89,8 @@ const FAULTS: [(Fault, &str); 7] = [
     (Fault::Late, "remove"),
     (Fault::NoneHeld, "the ledger's"),
     (Fault::Idle, "retired after"),
+    (Fault::StillPoint, "base and point"),
+    (Fault::StillBase, "base and point"),
 ];
 
 fn self_test() -> Result<String, String> {

@@ -23,10 +23,12 @@ pub enum Refusal {
     Unsound = 7,
     /// `release_retired`, `clear_bounded`: the number is above 256.
     Budget = 8,
+    /// `set_base`: a base of 2147483648 or more.
+    Base = 9,
 }
 
 impl Refusal {
-    const ALL: [Self; 8] = [
+    const ALL: [Self; 9] = [
         Self::WindowSize,
         Self::SparseCells,
         Self::DemoteAt,
@@ -35,6 +37,7 @@ impl Refusal {
         Self::ShortMemory,
         Self::Unsound,
         Self::Budget,
+        Self::Base,
     ];
 
     /// The number that the papers and the C interface give it.
@@ -58,6 +61,7 @@ impl fmt::Display for Refusal {
             Self::ShortMemory => "a list is too short",
             Self::Unsound => "the state is not sound",
             Self::Budget => "the number is above 256",
+            Self::Base => "a base of 2147483648 or more",
         };
         write!(f, "refused {}: {why}", self.number())
     }

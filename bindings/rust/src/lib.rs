@@ -2,8 +2,8 @@
 //!
 //! A [`Window`] holds packets by sequence number; a value is a number of the caller's choice, such as that of a packet store. It works
 //! in lists that the caller lends ([`Memory`]) and gives each accepted value back exactly once: as an old value from
-//! [`Window::insert`] and [`Window::exchange`], as the value from [`Window::remove`], or among the `returned` values of an
-//! [`Outcome`].
+//! [`Window::insert`] and [`Window::exchange`], as the value from [`Window::remove`] and [`Window::take_front`], or among the `returned`
+//! values of an [`Outcome`].
 //!
 //! ```
 //! use packet_window::{Inserted, OwnedMemory, Window};

@@ -16,6 +16,10 @@ pub struct Header {
     pub retired_held: u32,
     /// The page that `release_retired` inspects next.
     pub release_cursor: u32,
+    /// Where `point` is looked for from, below 2^31.
+    pub base: u32,
+    /// The first sequence from the base that is not live.
+    pub point: u32,
     /// Bit b: a page of block b holds a value.
     pub nonempty_summary: u64,
     /// Bit b: every page of block b counts as retired.
@@ -90,6 +94,19 @@ extern "C" {
         sequences: *mut u32, sequences_length: usize, values: *mut u32, values_length: usize,
         pages: *mut u64, pages_length: usize, blocks: *mut u64, blocks_length: usize,
         sequence: u32,
+    ) -> NumberedStep;
+
+    pub fn packet_window_set_base(
+        w: Header,
+        sequences: *const u32, sequences_length: usize, values: *const u32, values_length: usize,
+        pages: *const u64, pages_length: usize, blocks: *const u64, blocks_length: usize,
+        base: u32,
+    ) -> NumberedStep;
+
+    pub fn packet_window_take_front(
+        w: Header,
+        sequences: *mut u32, sequences_length: usize, values: *mut u32, values_length: usize,
+        pages: *mut u64, pages_length: usize, blocks: *mut u64, blocks_length: usize,
     ) -> NumberedStep;
 
     pub fn packet_window_successor_after(

@@ -65,7 +65,7 @@ fn same_version() {
 impl<'m> Window<'m> {
     /// An empty window. `n`: the cells of a sparse page, 1 to 63; a page with more values becomes dense. `demote_at`: a dense page that
     /// a removal leaves with this many values or fewer becomes sparse again; at most `n`, and 0 for never. Neither changes what `insert`,
-    /// `get`, `exchange`, `remove`, `successor_after`, `first_from` and `remove_range` answer.
+    /// `get`, `exchange`, `remove`, `set_base`, `take_front`, `successor_after`, `first_from` and `remove_range` answer.
     ///
     /// Refused, in this order: `WindowSize`, `SparseCells`, `DemoteAt`, `ShortMemory`. The memory then stays as it was.
     ///
@@ -133,6 +133,18 @@ impl<'m> Window<'m> {
     /// Removes the value of a sequence and hands it back.
     pub fn remove(&mut self, sequence: u32) -> Result<Option<u32>, Refusal> {
         answers::found(writing!(self, packet_window_remove(sequence)).answer)
+    }
+
+    /// Sets the base, forwards or backwards, also away from all values. Nothing is removed.
+    ///
+    /// Refused: `Base`.
+    pub fn set_base(&mut self, base: u32) -> Result<(), Refusal> {
+        answers::done(writing!(self, packet_window_set_base(base)).answer)
+    }
+
+    /// Removes the value of the base, hands it back and moves the base by one, modulo 2^31. If the base has none, nothing moves.
+    pub fn take_front(&mut self) -> Result<Option<u32>, Refusal> {
+        answers::found(writing!(self, packet_window_take_front()).answer)
     }
 
     /// The first live sequence by position, from the position after the given sequence's, round the capacity, to its own last of all.
@@ -223,6 +235,17 @@ impl<'m> Window<'m> {
     /// Whether no value, live or retired, is held.
     pub fn is_released(&self) -> bool {
         self.is_empty() && !self.has_retired()
+    }
+
+    /// Where [`Window::point`] is looked for from: 0 in a new window.
+    pub fn base(&self) -> u32 {
+        self.header.base
+    }
+
+    /// The first sequence from the base, in 31-bit circular order, that is not live; if the window_size sequences from the base are all
+    /// live, the base plus window_size, modulo 2^31.
+    pub fn point(&self) -> u32 {
+        self.header.point
     }
 
     /// Pages that became dense, modulo 2^64.

@@ -1,4 +1,5 @@
-//! The starred edge cases of document 01, and what the interface itself adds: lengths, short lists, the iterator.
+//! The starred edge cases of document 01, those of the base and its point, and what the interface itself adds: lengths, short lists, the
+//! iterator.
 
 use packet_window::*;
 
@@ -121,6 +122,51 @@ fn the_only_value_succeeds_itself() {
 }
 
 #[test]
+fn base_and_point() {
+    let mut memory = OwnedMemory::new(65);
+    let mut w = window(&mut memory, 65);
+    assert_eq!((w.base(), w.point()), (0, 0));
+    enter(&mut w, 1, 10);
+    assert_eq!((w.take_front(), w.base(), w.point()), (Ok(None), 0, 0));
+    enter(&mut w, 0, 11);
+    assert_eq!((w.base(), w.point()), (0, 2));
+    assert_eq!((w.take_front(), w.base(), w.point(), w.len()), (Ok(Some(11)), 1, 2, 1));
+    assert_eq!((w.set_base(2147483648), w.base(), w.point()), (Err(Refusal::Base), 1, 2));
+    assert_eq!((w.set_base(0), w.base(), w.point(), w.len()), (Ok(()), 0, 0, 1));
+    assert_eq!((w.set_base(2147483647), w.point()), (Ok(()), 2147483647));
+    enter(&mut w, 2147483647, 12);
+    assert_eq!(w.point(), 0);
+    assert_eq!((w.take_front(), w.base(), w.point()), (Ok(Some(12)), 0, 0));
+}
+
+#[test]
+fn the_point_is_at_most_window_size_from_the_base() {
+    let mut memory = OwnedMemory::new(65);
+    let mut w = window(&mut memory, 65);
+    assert_eq!(w.set_base(2147483600), Ok(()));
+    for steps in 0..66 {
+        enter(&mut w, (2147483600 + steps) % 2147483648, steps);
+    }
+    assert_eq!((w.point(), w.get(w.point())), (17, Ok(Some(65))));
+    assert_eq!((w.remove(2147483610), w.point()), (Ok(Some(10)), 2147483610));
+    enter(&mut w, 2147483610, 10);
+    assert_eq!((w.take_front(), w.point()), (Ok(Some(0)), 18));
+    assert_eq!((w.clear().answer, w.base(), w.point()), (Ok(()), 2147483601, 2147483601));
+}
+
+#[test]
+fn an_alias_or_a_retired_value_is_none_of_the_base() {
+    let mut memory = OwnedMemory::new(64);
+    let mut w = window(&mut memory, 64);
+    enter(&mut w, 2147483648, 7);
+    assert_eq!((w.point(), w.take_front(), w.base()), (0, Ok(None), 0));
+    assert_eq!(w.remove(2147483648), Ok(Some(7)));
+    enter(&mut w, 0, 8);
+    assert_eq!(w.clear_bounded(0).answer, Ok(0));
+    assert_eq!((w.point(), w.take_front(), w.retired_held()), (0, Ok(None), 1));
+}
+
+#[test]
 fn budgets() {
     let mut memory = OwnedMemory::new(64);
     let mut w = window(&mut memory, 64);
@@ -213,10 +259,13 @@ fn a_window_goes_on_from_its_parts() {
 
 #[test]
 fn parts_that_were_written_are_refused() {
-    let damage: [fn(&mut Header, &mut Memory); 6] = [
+    let damage: [fn(&mut Header, &mut Memory); 9] = [
         |header, _| header.len += 1,
         |header, _| header.retired_held = 1,
         |header, _| header.release_cursor = 2,
+        |header, _| header.base = 5,
+        |header, _| header.base = 2147483648,
+        |header, _| header.point = 1,
         |_, memory| memory.sequences[0] += 1,
         |_, memory| memory.pages[0] = 3,
         |_, memory| memory.blocks[2] -= 1,
@@ -243,7 +292,7 @@ fn parts_that_do_not_fit_are_refused() {
 }
 
 #[test]
-fn refusals_have_document_01s_numbers() {
+fn refusals_have_the_papers_numbers() {
     let refusals = [
         Refusal::WindowSize,
         Refusal::SparseCells,
@@ -253,6 +302,7 @@ fn refusals_have_document_01s_numbers() {
         Refusal::ShortMemory,
         Refusal::Unsound,
         Refusal::Budget,
+        Refusal::Base,
     ];
-    assert_eq!(refusals.map(Refusal::number), [1, 2, 3, 4, 5, 6, 7, 8]);
+    assert_eq!(refusals.map(Refusal::number), [1, 2, 3, 4, 5, 6, 7, 8, 9]);
 }

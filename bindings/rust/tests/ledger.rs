@@ -1,5 +1,5 @@
-//! Random calls against the plain table of document 01. Values are numbers of packet stores out of a pool: a store that comes back
-//! must be out, so each comes back exactly once.
+//! Random calls against the plain table of document 01 with document 02's base. Values are numbers of packet stores out of a pool: a
+//! store that comes back must be out, so each comes back exactly once.
 
 use packet_window::*;
 use std::collections::{BTreeMap, HashSet};
@@ -89,6 +89,13 @@ impl Table {
         (last.wrapping_sub(first) & 0x7fff_ffff) + 1
     }
 
+    /// The first sequence from the base that is not live, at most window_size from it.
+    fn point(&self, base: u32) -> u32 {
+        let after = |steps: u32| base.wrapping_add(steps) & 0x7fff_ffff;
+        let reach = (0..self.window_size).find(|&steps| self.get(after(steps)).is_none());
+        after(reach.unwrap_or(self.window_size))
+    }
+
     /// Whether the pair is one that `stranger` may give for a range.
     fn is_stranger(&self, pair: (u32, u32), first: u32, count: u32) -> bool {
         let inside = |sequence: u32| sequence.wrapping_sub(first) % self.capacity < count;
@@ -104,7 +111,8 @@ impl Table {
     }
 }
 
-/// A window with its table and the pool that its values come from. Most sequences lie within window_size from `base`.
+/// A window with its table and the pool that its values come from. Most sequences lie within window_size from `base`; some
+/// come in order, at the window's point.
 struct Run<'m> {
     window: Window<'m>,
     table: Table,
@@ -122,6 +130,8 @@ struct Seen {
     refused: u64,
     replaced: u64,
     strangers: u64,
+    fronts: u64,
+    furthest_point: u32,
     most_retired: u32,
     returned_by_insert: u64,
     returned_by_release: u64,
@@ -132,6 +142,7 @@ impl Run<'_> {
         match self.random.below(20) {
             0 => self.random.next() as u32,
             1..=5 => self.base.wrapping_add(self.random.below(self.table.window_size)),
+            6..=9 => self.window.point(),
             _ => self.base.wrapping_add(self.random.below(500.min(self.table.window_size))),
         }
     }
@@ -179,6 +190,27 @@ impl Run<'_> {
             self.pool.back(value);
             self.table.pairs.remove(&(sequence % self.table.capacity));
         }
+    }
+
+    fn take_front(&mut self) {
+        let base = self.window.base();
+        let value = self.table.get(base);
+        assert_eq!(self.window.take_front(), Ok(value), "take_front at {base}");
+        let moved = value.map_or(base, |_| (base + 1) & 0x7fff_ffff);
+        assert_eq!(self.window.base(), moved);
+        if let Some(value) = value {
+            self.seen.fronts += 1;
+            self.pool.back(value);
+            self.table.pairs.remove(&(base % self.table.capacity));
+        }
+    }
+
+    /// Most sequences lie elsewhere from now on. The window's base follows, if it can.
+    fn move_base(&mut self) {
+        self.base = self.base.wrapping_add(self.random.below(self.table.window_size));
+        let before = self.window.base();
+        let (wanted, base) = if self.base < 1 << 31 { (Ok(()), self.base) } else { (Err(Refusal::Base), before) };
+        assert_eq!((self.window.set_base(self.base), self.window.base()), (wanted, base));
     }
 
     fn look(&mut self) {
@@ -273,14 +305,18 @@ impl Run<'_> {
             0..=599 => self.insert(),
             600..=639 => self.exchange(),
             640..=799 => self.remove(),
-            800..=869 => self.look(),
+            800..=839 => self.look(),
+            840..=869 => self.take_front(),
             870..=899 => self.stranger(),
             900..=939 => self.remove_range(),
             940..=984 => self.release(),
             985..=987 => self.clear(),
             988..=990 => self.clear_bounded(),
-            _ => self.base = self.base.wrapping_add(self.random.below(self.table.window_size)),
+            _ => self.move_base(),
         }
+        let (base, point) = (self.window.base(), self.window.point());
+        assert_eq!(point, self.table.point(base), "the point from {base}");
+        self.seen.furthest_point = self.seen.furthest_point.max(point.wrapping_sub(base) & 0x7fff_ffff);
         assert_eq!(self.window.len() as usize, self.table.pairs.len());
         assert_eq!((self.window.len() + self.window.retired_held()) as usize, self.pool.out.len());
         self.seen.most_retired = self.seen.most_retired.max(self.window.retired_held());
@@ -308,6 +344,8 @@ impl Seen {
         self.refused += other.refused;
         self.replaced += other.replaced;
         self.strangers += other.strangers;
+        self.fronts += other.fronts;
+        self.furthest_point = self.furthest_point.max(other.furthest_point);
         self.most_retired = self.most_retired.max(other.most_retired);
         self.returned_by_insert += other.returned_by_insert;
         self.returned_by_release += other.returned_by_release;
@@ -339,6 +377,7 @@ fn runs(seeds: std::ops::RangeInclusive<u64>, window_sizes: &[u32], calls: u32) 
         run(seed, window_size, calls, &mut seen);
     }
     assert!(seen.promotions > 0 && seen.demotions > 0 && seen.refused > 0 && seen.replaced > 0);
+    assert!(seen.fronts > 0 && seen.furthest_point > 10);
     assert!(seen.strangers > 0 && seen.most_retired > 0 && seen.returned_by_insert > 0 && seen.returned_by_release > 0);
 }
 

@@ -51,6 +51,8 @@ fn make(window: &mut Window, call: Call) -> Said {
         Call::ReleaseRetired(budget) => with_list(window.release_retired(budget), |Released { values, units }| format!("{values}:{units}")),
         Call::Clear => with_list(window.clear(), |()| ".".to_string()),
         Call::Iter => listed(window),
+        Call::SetBase(base) => alone(window.set_base(base).map(|()| ".".to_string())),
+        Call::TakeFront => alone(absent_or(window.take_front())),
     }
 }
 
