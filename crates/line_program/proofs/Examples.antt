@@ -12,19 +12,20 @@ use Rattle.window.specs.Memory.{capacity}
 use Rattle.window.specs.Refusals.{limits}
 use Rattle.window.specs.New.{fresh}
 use Rattle.model.specs.Table.{rangeCount, distance, sum, heldInRange, searchFrom, strangerIn}
+use Rattle.model.specs.Point.{reach}
 use Rattle.model.specs.Window.{cellOf, iterStep, pairsFrom}
 use Rattle.model.specs.Pages.{freeCell, promoted, nthSet, packed, insertPage, drainPage}
-use Rattle.model.specs.Steps.{noteNonempty, splitBlock, releasePage, nextRetired, releaseUnits, revive, removeSlots, retireInBlock, retireBlock, retireBlocks, retirePages, retireStretch, retireRange, retireAll, releasePages, insertStep, exchangeStep, removeStep, rangeStep, clearStep, clearBoundedStep, releaseStep, windowDoes}
+use Rattle.model.specs.Steps.{noteNonempty, splitBlock, releasePage, nextRetired, releaseUnits, revive, removeSlots, retireInBlock, retireBlock, retireBlocks, retirePages, retireStretch, retireRange, retireAll, releasePages, insertStep, exchangeStep, removeStep, rangeStep, clearStep, clearBoundedStep, releaseStep, frontStep, windowDoes}
 use Rattle.line_text.specs.Fields.{allDigits, numberFrom, fieldOf}
 use Rattle.line_text.specs.Lines.{parts, ended, waiting, numbers, among, fieldCount, lineOf}
 use Rattle.line_text.specs.Output.{digitsUpTo, paired, tabbed}
 use Rattle.line_output.specs.Output.{answerBytes, countBytes}
-use Rattle.line_calls.specs.Calls.{rangeCallOf, callOf, commandOf}
+use Rattle.line_calls.specs.Calls.{rangeCallOf, baseCallOf, callOf, commandOf}
 use Rattle.line_program.specs.Program.{Printed, atStart, windowIn, withWindow, newLine, callLine, listLine, lineDoes, linesDo, linesOf, windowlines}
 
 -- names every definition that computes
 unfoldable everything : ℕ
-unfolding firstFrom firstRound bitAt withBit countBelow span wordBelow lowest capacity limits fresh rangeCount distance sum heldInRange searchFrom strangerIn cellOf iterStep pairsFrom freeCell promoted nthSet packed insertPage drainPage noteNonempty splitBlock releasePage nextRetired releaseUnits revive removeSlots retireInBlock retireBlock retireBlocks retirePages retireStretch retireRange retireAll releasePages insertStep exchangeStep removeStep rangeStep clearStep clearBoundedStep releaseStep windowDoes allDigits numberFrom fieldOf parts ended waiting numbers among fieldCount lineOf digitsUpTo paired tabbed answerBytes countBytes rangeCallOf callOf commandOf windowIn withWindow newLine callLine listLine lineDoes linesDo linesOf windowlines
+unfolding reach firstFrom firstRound bitAt withBit countBelow span wordBelow lowest capacity limits fresh rangeCount distance sum heldInRange searchFrom strangerIn cellOf iterStep pairsFrom freeCell promoted nthSet packed insertPage drainPage noteNonempty splitBlock releasePage nextRetired releaseUnits revive removeSlots retireInBlock retireBlock retireBlocks retirePages retireStretch retireRange retireAll releasePages insertStep exchangeStep removeStep rangeStep clearStep clearBoundedStep releaseStep frontStep windowDoes allDigits numberFrom fieldOf parts ended waiting numbers among fieldCount lineOf digitsUpTo paired tabbed answerBytes countBytes rangeCallOf baseCallOf callOf commandOf windowIn withWindow newLine callLine listLine lineDoes linesDo linesOf windowlines
 everything = 0
 
 -- ---- text
@@ -78,6 +79,14 @@ released : Prints
     ("n . 0 0 0 0" ∷ "i + 1 0 0 0" ∷ "i + 2 0 0 0" ∷ "i + 3 0 1 0" ∷ "b 1 0 2 1 0 50" ∷ "v 0:1 0 2 1 0" ∷ "v 1:2 0 1 1 0 70" ∷ "v 1:2 0 0 1 0 71" ∷ [])
 unfolding everything
 released = refl
+
+-- document 02, S-1: a "sets the base and answers `.`", t "takes the front and answers as r does"; 9 is "a base of 2147483648 or more"
+fronts : Prints
+    ("n 64 2 1" ∷ "t" ∷ "a 2147483647" ∷ "i 0 7" ∷ "i 2147483647 8" ∷ "t" ∷ "t" ∷ "t" ∷ "a 2147483648" ∷ "a 5" ∷ "i 69 9" ∷ "t" ∷ "t 5" ∷ "a" ∷ [])
+    ("n . 0 0 0 0" ∷ "t - 0 0 0 0" ∷ "a . 0 0 0 0" ∷ "i + 1 0 0 0" ∷ "i + 2 0 0 0" ∷ "t 8 1 0 0 0" ∷ "t 7 0 0 0 0" ∷ "t - 0 0 0 0" ∷ "a !9 0 0 0 0"
+    ∷ "a . 0 0 0 0" ∷ "i + 1 0 0 0" ∷ "t - 1 0 0 0" ∷ "?" ∷ "?" ∷ [])
+unfolding everything
+fronts = refl
 
 -- l: pairs by pages, in a page by cells; 9 came before 5, and its cell serves 7
 listed : Prints
