@@ -55,7 +55,7 @@ KEEPS = {
 EXAMPLES = 'crates/model/proofs/Examples.antt'
 # what the records say: each line stands in its file, word for word
 DEFINED = {
-    'crates/model/specs/Contract.antt': ['Does = DoesAs windowStep Sound', 'Meets = MeetsAs windowStep Sound'],
+    'crates/model/specs/Contract.antt': ['Does = DoesAs windowStep SoundWithPoint', 'Meets = MeetsAs windowStep SoundWithPoint'],
     'crates/model/specs/Heads.antt': ['  pub meets : Meets (e .call) u list left'],
     'crates/call_base/specs/Answers.antt': [
         'MeetsBy c w ss vs pages blocks r = Meets c (stateOf w (foundIn ss vs pages blocks)) [] (leftOf r (leftIn ss vs pages blocks) [])',
@@ -217,9 +217,10 @@ WRONG = [
     ('crates/call_read/src/lib.rt', 'MeetsBy (ask (getOf sequence)) w sequences values pages blocks r', 'AdmittedBy (ask (getOf sequence)) w sequences values pages blocks r'),
     # a record of the same name from elsewhere
     ('crates/call_read/src/lib.rt', 'Rattle.call_base.specs.Answers.{MeetsBy}', 'Rattle.call_read.specs.Contracts.{MeetsBy}'),
-    # the contract of every call at what the call does, not at the whole step; on no window
-    ('crates/model/specs/Contract.antt', 'Meets = MeetsAs windowStep Sound', 'Meets = MeetsAs windowDoes Sound'),
-    ('crates/model/specs/Contract.antt', 'Meets = MeetsAs windowStep Sound', 'Meets = MeetsAs windowStep (λ w. ⊥)'),
+    # the contract of every call at what the call does, not at the whole step; with a soundness that leaves base and point out; on no window
+    ('crates/model/specs/Contract.antt', 'Meets = MeetsAs windowStep SoundWithPoint', 'Meets = MeetsAs windowDoes SoundWithPoint'),
+    ('crates/model/specs/Contract.antt', 'Meets = MeetsAs windowStep SoundWithPoint', 'Meets = MeetsAs windowStep Sound'),
+    ('crates/model/specs/Contract.antt', 'Meets = MeetsAs windowStep SoundWithPoint', 'Meets = MeetsAs windowStep (λ w. ⊥)'),
     # what can be asked of no caller
     ('crates/call_read/src/lib.rt', 'ensures { λ r. ⌜ MeetsBy (ask (getOf sequence))', 'requires { ⌜ ListsFit w sequences values pages blocks ⌝ }\n    ensures { λ r. ⌜ MeetsBy (ask (getOf sequence))'),
     # an exported call that is no call of the model, and a call that is not exported

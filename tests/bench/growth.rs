@@ -33,8 +33,7 @@ const FEW: u32 = 8;
 const NEAR: u32 = 16;
 const VISIT: u32 = 256;
 
-/// The calls of a line. Live values lie at equal distances but for InOrder, where they are the last ones inserted, and for the last two,
-/// where they lie in a row.
+/// The calls of a line. Live values lie at equal distances but for InOrder and the last three, where they lie in a row.
 #[derive(Clone, Copy, PartialEq)]
 enum Calls {
     /// The oldest value removed, the next one inserted.
@@ -52,13 +51,15 @@ enum Calls {
     Iter,
     /// With nothing retired.
     Release,
+    /// The front taken, the next value inserted at the point.
+    Front,
+    /// The oldest value removed, the base set past it, the next one inserted at the point.
+    SetBase,
     /// Live values in a row after the base, which is inserted and removed; the point is asked for after each call.
     Hole,
-    /// The base set to one of the first live values of a row; the point is asked for after each call.
-    SetBase,
 }
 
-const CALLS_NAMED: [(Calls, &str); 10] = [
+const CALLS_NAMED: [(Calls, &str); 11] = [
     (Calls::InOrder, "insert and remove"),
     (Calls::Get, "get"),
     (Calls::GetNear, "get, 16 sequences"),
@@ -67,8 +68,9 @@ const CALLS_NAMED: [(Calls, &str); 10] = [
     (Calls::FirstFrom, "first_from"),
     (Calls::Iter, "iter step"),
     (Calls::Release, "release_retired"),
-    (Calls::Hole, "insert and remove at the base, point"),
-    (Calls::SetBase, "set_base, point"),
+    (Calls::Front, "insert at the point, take_front"),
+    (Calls::SetBase, "insert at the point, remove, set_base"),
+    (Calls::Hole, "hole before them filled and made again"),
 ];
 
 /// Gets of a scan for the point in one round, at most.
@@ -141,19 +143,28 @@ fn made<W: Window>(w: &mut W, calls: Calls, held: Held, asked: &[u32], from: &mu
             }
         }
         Calls::Release => (0..CALLS).for_each(|_| add(w.release_retired(VISIT))),
+        Calls::Front => {
+            for sequence in *from..*from + CALLS / 2 {
+                add(w.take_front());
+                add(w.insert(sequence, !sequence));
+            }
+            *from += CALLS / 2;
+        }
+        Calls::SetBase => {
+            for sequence in *from..*from + CALLS / 3 {
+                add(w.remove(sequence - held.live));
+                add(w.set_base(sequence - held.live + 1));
+                add(w.insert(sequence, !sequence));
+            }
+            *from += CALLS / 3;
+            count = CALLS / 3 * 3;
+        }
         Calls::Hole => {
             count = CALLS.min(SCANNED / held.live);
             for value in 0..count / 2 {
                 add(w.insert(0, value));
                 add(w.point());
                 add(w.remove(0));
-                add(w.point());
-            }
-        }
-        Calls::SetBase => {
-            count = CALLS.min(SCANNED / held.live);
-            for at in 0..count {
-                add(w.set_base(1 + at % 2));
                 add(w.point());
             }
         }
@@ -177,9 +188,9 @@ impl<W: Window> Timed<W> {
             }
             window.clear();
         }
-        let pointing = matches!(calls, Calls::Hole | Calls::SetBase);
-        let distance = if calls == Calls::InOrder || pointing { 1 } else { held.distance() };
-        let first = u32::from(pointing);
+        let in_a_row = matches!(calls, Calls::InOrder | Calls::Front | Calls::SetBase | Calls::Hole);
+        let distance = if in_a_row { 1 } else { held.distance() };
+        let first = u32::from(calls == Calls::Hole);
         for at in 0..held.live.min(held.size - first) {
             window.insert(first + at * distance, at);
         }

@@ -73,5 +73,3 @@ works-acts c u l r h f a z works is stays =
 pub still-acts : (c : Call) (u : State) (l : List ℕ) (r : Left) → Admitted c u l r → argumentRefusal (knownBy (windowOf u .header)) c ≡ 0
     → (SoundWithPoint (windowOf u) → Works (λ n t base point. point) (windowDoes (windowOf u) c .after)) → Acts c u l r
 still-acts c u l r a z works = works-acts c u l r (r .state .header) (λ n t base point. point) a z works (λ ok. refl) (λ ok e. refl)
-
-

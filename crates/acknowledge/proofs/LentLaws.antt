@@ -8,7 +8,7 @@ use Rattle.window.specs.declared.AdaptiveReceiverPacketWindow.{AdaptiveReceiver
 use Rattle.window.specs.Memory.{Memory}
 use Rattle.window.specs.Refusals.{Fits}
 use Rattle.model.specs.Contract.{SameLengths}
-use Rattle.acknowledge.specs.Contracts.{withSizes, ListsLent}
+use Rattle.acknowledge.specs.Contracts.{withSizes, ListsLent, PointFrom}
 
 pub lists-lent : (h : AdaptiveReceiverPacketWindow) (ss vs pages blocks : List ℕ)
     → Fits h (length ss) (length vs) (length pages) (length blocks) → ListsLent h ss pages blocks
@@ -27,6 +27,11 @@ sized-lent v w h ss pages blocks e f = subst (λ (k : AdaptiveReceiverPacketWind
   pages-long = f .pages-long;
   blocks-long = f .blocks-long;
 })
+
+-- and its point is that of the header with those sizes
+pub sized-point : (v w h : AdaptiveReceiverPacketWindow) (ss pages blocks : List ℕ) (base d r : ℕ) → h ≡ withSizes v w → PointFrom h ss pages blocks base d r
+    → PointFrom (withSizes v w) ss pages blocks base d r
+sized-point v w h ss pages blocks base d r e p = subst (λ (k : AdaptiveReceiverPacketWindow). PointFrom k ss pages blocks base d r) e p
 
 -- after a call that left every list as long as it was
 pub left-lent : (w : AdaptiveReceiverPacketWindow) (m m′ : Memory) → Fits w (length (m .sequences)) (length (m .values)) (length (m .pages)) (length (m .blocks))

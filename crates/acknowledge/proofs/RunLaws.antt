@@ -12,7 +12,7 @@ use Rattle.words.proofs.CaseLaws.{bool}
 use Rattle.words.specs.Word.{bitAt, setBit, lowest}
 use Rattle.words.proofs.BitLaws.{bit-lt, bit-none, bit-not}
 use Rattle.words.proofs.ChangeLaws.{with-same, with-other}
-use Rattle.words.proofs.LowestLaws.{lowest-is}
+use Rattle.words.proofs.LowestLaws.{Lowest, lowest-is}
 use Rattle.model.specs.Table.{finds}
 use Rattle.model.specs.Window.{Page, cellOf, standsAt}
 use Rattle.page_base.specs.declared.PageWords.{PageWords}
@@ -29,6 +29,27 @@ use Rattle.acknowledge.specs.Contracts.{InRow, DenseRun, Masks, Runs}
 pub row-more : (ss : List ℕ) (filled row slot c : ℕ) → ((k : ℕ) → slot ≤ k → k < c → InRow ss filled row k) → InRow ss filled row c
     → (k : ℕ) → slot ≤ k → k < c + 1 → InRow ss filled row k
 row-more ss filled row slot c before own k a b = elim (ℕ-discrete k c) [ yes e ↦ rw e own | no e ↦ before k a (omega arith) ]
+
+-- the cells in use from `slot` on, up to the first that is not
+module _ (filled slot end : ℕ) (fits : filled < 2 ^ 64) (l : slot < 64) (e : end ≡ lowest ((2 ^ 64 - 1) - filled) slot) where
+  low : Lowest ((2 ^ 64 - 1) - filled) slot (lowest ((2 ^ 64 - 1) - filled) slot)
+  low = lowest-is ((2 ^ 64 - 1) - filled) slot (omega arith)
+
+  pub end-from : slot ≤ end
+  end-from = omega (arith, e, low .from)
+
+  pub end-top : end ≤ 64
+  end-top = omega (arith, e, low .top)
+
+  pub used-before : (c : ℕ) → slot ≤ c → c < end → bitAt filled c ≡ 1
+  used-before c a b = omega (arith, low .none c a (omega (arith, e)), bit-not 64 c filled fits (omega (arith, end-top)), bit-lt filled c)
+
+  pub unused-at : end < 64 → bitAt filled end ≡ 0
+  unused-at h =
+      let r = lowest ((2 ^ 64 - 1) - filled) slot in
+      let g : r < 64 = omega (arith, e) in
+      let z : bitAt filled r ≡ 0 = omega (arith, low .held g, bit-not 64 r filled fits g, bit-lt filled r) in
+      ap (bitAt filled) e ∙ z
 
 -- ---- the mask of a sparse page
 

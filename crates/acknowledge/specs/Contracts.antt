@@ -1,9 +1,10 @@
 -- What the functions promise: inside the lists whatever they hold; on a page whose values are in their places, and on a sound window,
 -- what the definitions of the model say. The values are not looked at. Definitions only. Assumes nothing.
 use mathlib.Core.Path.{_≡_}
-use mathlib.Core.Bool.{Bool, true, false}
+use mathlib.Core.Bool.{Bool, true, false, cond, _&&_}
 use mathlib.Core.List.{List}
-use Prim.Native.Nat.{ℕ, _+_, _*_, _/_, _%_, _^_, _≤_, _<_}
+use Prim.Native.Nat.{ℕ, _+_, _-_, _*_, _/_, _%_, _^_, _≤_, _<_}
+use lib.Dec.{eqb, ltb, leb}
 use lib.ListN.{length, getD}
 use Rattle.words.specs.Word.{bitAt}
 use Rattle.window.specs.declared.AdaptiveReceiverPacketWindow.{AdaptiveReceiverPacketWindow}
@@ -64,6 +65,13 @@ withSizes v w = record {
   demotions = v .demotions;
 }
 
+-- a point `reach` from its base stays for a base that is d on; if not, it is looked for from this distance on
+abbrev pub pointStays : (size reach d : ℕ) → Bool
+pointStays size reach d = leb d reach && ltb reach size
+
+abbrev pub searchFrom : (size reach d : ℕ) → ℕ
+searchFrom size reach d = cond (leb d reach && eqb reach size) (size - d) 0
+
 -- the lists that are looked at are as long as the header names them
 pub record ListsLent (h : AdaptiveReceiverPacketWindow) (ss pages blocks : List ℕ) : Type 0 where
   pub within : Within (h .«window_size») (h .n) (h .«demote_at»)
@@ -95,18 +103,18 @@ module _ (h : AdaptiveReceiverPacketWindow) (ss pages blocks : List ℕ) where
   pub record PointFrom (base d r : ℕ) : Type 0 where
     pub is : (vs : List ℕ) → Sound (windowFor vs) → r ≡ sequenceAt base (advance (h .«window_size») (liveAt (windowFor vs)) base d)
 
-  -- r is the header with the point after an insert of s that put a new pair
-  pub record Inserts (s : ℕ) (r : AdaptiveReceiverPacketWindow) : Type 0 where
-    pub header : r ≡ setPoint h (r .point)
+  -- r is the header v with the point after an insert of s that put a new pair
+  pub record Inserts (v : AdaptiveReceiverPacketWindow) (s : ℕ) (r : AdaptiveReceiverPacketWindow) : Type 0 where
+    pub header : r ≡ setPoint v (r .point)
     pub point : (vs : List ℕ) → Sound (windowFor vs) → r .point ≡ afterInsert (h .«window_size») (liveAt (windowFor vs)) (h .base) (h .point) s true
 
   -- r is the point for another base
   pub record MovesPoint (base r : ℕ) : Type 0 where
     pub is : (vs : List ℕ) → Sound (windowFor vs) → r ≡ afterSetBase (h .«window_size») (liveAt (windowFor vs)) (h .base) (h .point) base
 
-  -- r is the header with that base and that point
-  pub record MovesBase (base : ℕ) (r : AdaptiveReceiverPacketWindow) : Type 0 where
-    pub header : r ≡ setBase (setPoint h (r .point)) base
+  -- r is the header v with that base and that point
+  pub record MovesBase (v : AdaptiveReceiverPacketWindow) (base : ℕ) (r : AdaptiveReceiverPacketWindow) : Type 0 where
+    pub header : r ≡ setBase (setPoint v (r .point)) base
     pub point : (vs : List ℕ) → Sound (windowFor vs) → r .point ≡ afterSetBase (h .«window_size») (liveAt (windowFor vs)) (h .base) (h .point) base
 
   -- r says whether the base is below 2 ^ 31 and the point is the one worked out afresh

@@ -17,7 +17,7 @@ ghost use Rattle.window.specs.Memory.{capacity, position as positionOf};
 ghost use Rattle.model.specs.Table.{sequenceAt};
 ghost use Rattle.model.specs.Steps.{setPoint};
 ghost use Rattle.laws_acknowledge.specs.Increments.{afterRemove, leastCovered, afterRange};
-ghost use Rattle.acknowledge.specs.Contracts.{withSizes, ListsLent, LiveRun, Advances, PointFrom, Inserts, MovesPoint, MovesBase, DecidesCurrent};
+ghost use Rattle.acknowledge.specs.Contracts.{withSizes, pointStays, searchFrom, ListsLent, LiveRun, Advances, PointFrom, Inserts, MovesPoint, MovesBase, DecidesCurrent};
 
 // The sequence at distance `d` from the base: sums are modulo 2^31.
 pub fn sequence_at(base: u32, d: u32) -> u32
@@ -115,27 +115,29 @@ pub fn with_sizes(
     h
 }
 
-// After an insert that put a new pair: only at the point does it move.
+// After an insert that put a new pair into the window `w` and left the header `v`: only at the point does it move.
 pub fn after_insert(
     w: AdaptiveReceiverPacketWindow,
+    v: AdaptiveReceiverPacketWindow,
     sequences: &[u32],
     pages: &[u64],
     blocks: &[u64],
     sequence: u32,
 ) -> AdaptiveReceiverPacketWindow
     requires { ⌜ ListsLent w (now sequences) (now pages) (now blocks) ⌝ }
-    ensures { λ r. ⌜ Inserts w (now (sequences .entry)) (now (pages .entry)) (now (blocks .entry)) sequence r ⌝ }
+    ensures { λ r. ⌜ Inserts (withSizes v w) (now (sequences .entry)) (now (pages .entry)) (now (blocks .entry)) v sequence r ⌝ }
 {
-    let reach = distance(w.base, w.point);
-    if sequence != w.point {
-        return w;
+    if sequence != v.point {
+        return v;
     }
+    let reach = distance(v.base, v.point);
     if w.window_size <= reach {
-        return w;
+        return v;
     }
+    let sized = with_sizes(v, w);
     with_point(
-        w,
-        point_from(w, sequences, pages, blocks, w.base, reach + 1),
+        v,
+        point_from(sized, sequences, pages, blocks, v.base, reach + 1),
     )
 }
 
@@ -150,31 +152,33 @@ pub fn after_remove(w: AdaptiveReceiverPacketWindow, sequence: u32) -> AdaptiveR
 }
 
 // How far from the base the first position is that a range of `count` positions from first's covers.
-fn first_covered(w: AdaptiveReceiverPacketWindow, first: u32, count: usize) -> u32
-    requires { ⌜ (w .«window_size» ≤ 65536) × (count ≤ capacity (w .«window_size»)) ⌝ }
-    ensures { λ r. ⌜ r ≡ leastCovered (capacity (w .«window_size»)) (positionOf (w .«window_size») first) count (positionOf (w .«window_size») (w .base)) ⌝ }
+fn first_covered(size: u32, base: u32, first: u32, count: usize) -> u32
+    requires { ⌜ (size ≤ 65536) × (count ≤ capacity size) ⌝ }
+    ensures { λ r. ⌜ r ≡ leastCovered (capacity size) (positionOf size first) count (positionOf size base) ⌝ }
 {
-    let past = position(w.window_size, std::num::wrapping_sub_u32(w.base, first));
+    let past = position(size, std::num::wrapping_sub_u32(base, first));
     if past < count {
         return 0;
     }
-    position(w.window_size, std::num::wrapping_sub_u32(first, w.base)) as u32
+    position(size, std::num::wrapping_sub_u32(first, base)) as u32
 }
 
-// After a range was removed: where it covers a position before the point, the first of these becomes the point.
+// After a range was removed from a window of this size: where it covers a position before the point, the first of these becomes the
+// point.
 pub fn after_range(
-    w: AdaptiveReceiverPacketWindow,
+    v: AdaptiveReceiverPacketWindow,
+    size: u32,
     first: u32,
     count: usize,
 ) -> AdaptiveReceiverPacketWindow
-    requires { ⌜ (w .«window_size» ≤ 65536) × (count ≤ capacity (w .«window_size»)) ⌝ }
-    ensures { λ r. ⌜ r ≡ setPoint w (afterRange (capacity (w .«window_size»)) (positionOf (w .«window_size») first) count (w .base) (w .point)) ⌝ }
+    requires { ⌜ (size ≤ 65536) × (count ≤ capacity size) ⌝ }
+    ensures { λ r. ⌜ r ≡ setPoint v (afterRange (capacity size) (positionOf size first) count (v .base) (v .point)) ⌝ }
 {
-    let d = first_covered(w, first, count);
-    if d < distance(w.base, w.point) {
-        return with_point(w, sequence_at(w.base, d));
+    let d = first_covered(size, v.base, first, count);
+    if d < distance(v.base, v.point) {
+        return with_point(v, sequence_at(v.base, d));
     }
-    w
+    v
 }
 
 // After everything was removed.
@@ -184,47 +188,67 @@ pub fn after_clear(w: AdaptiveReceiverPacketWindow) -> AdaptiveReceiverPacketWin
     with_point(w, w.base)
 }
 
-// The point for another base: it stays if that lies in base .. point, but for the advance past the old limit.
+// Whether a point at distance `reach` from its base stays for a base at distance `d`.
+fn point_stays(size: u32, reach: u32, d: u32) -> bool
+    ensures { λ r. ⌜ r ≡ pointStays size reach d ⌝ }
+{
+    if reach < d {
+        return false;
+    }
+    reach < size
+}
+
+// From which distance on it is looked for if it does not: those before the old limit are live.
+fn search_from(size: u32, reach: u32, d: u32) -> u32
+    ensures { λ r. ⌜ r ≡ searchFrom size reach d ⌝ }
+{
+    if reach < d {
+        return 0;
+    }
+    if reach != size {
+        return 0;
+    }
+    size - d
+}
+
+// The point for another base, of the window `w` with the header `v`.
 fn moved_point(
     w: AdaptiveReceiverPacketWindow,
+    v: AdaptiveReceiverPacketWindow,
     sequences: &[u32],
     pages: &[u64],
     blocks: &[u64],
     base: u32,
 ) -> u32
     requires { ⌜ ListsLent w (now sequences) (now pages) (now blocks) ⌝ }
-    ensures { λ r. ⌜ MovesPoint w (now (sequences .entry)) (now (pages .entry)) (now (blocks .entry)) base r ⌝ }
+    ensures { λ r. ⌜ MovesPoint (withSizes v w) (now (sequences .entry)) (now (pages .entry)) (now (blocks .entry)) base r ⌝ }
 {
     let size = w.window_size;
-    let reach = distance(w.base, w.point);
-    let d = distance(w.base, base);
-    if reach < d {
-        return point_from(w, sequences, pages, blocks, base, 0);
+    let reach = distance(v.base, v.point);
+    let d = distance(v.base, base);
+    if point_stays(size, reach, d) {
+        return v.point;
     }
-    if size < reach {
-        return point_from(w, sequences, pages, blocks, base, 0);
-    }
-    if reach < size {
-        return w.point;
-    }
-    point_from(w, sequences, pages, blocks, base, size - d)
+    let from = search_from(size, reach, d);
+    point_from(with_sizes(v, w), sequences, pages, blocks, base, from)
 }
 
-// The header with another base.
+// The header `v` of the window `w` with another base.
 pub fn after_base(
     w: AdaptiveReceiverPacketWindow,
+    v: AdaptiveReceiverPacketWindow,
     sequences: &[u32],
     pages: &[u64],
     blocks: &[u64],
     base: u32,
 ) -> AdaptiveReceiverPacketWindow
     requires { ⌜ ListsLent w (now sequences) (now pages) (now blocks) ⌝ }
-    ensures { λ r. ⌜ MovesBase w (now (sequences .entry)) (now (pages .entry)) (now (blocks .entry)) base r ⌝ }
+    ensures { λ r. ⌜ MovesBase (withSizes v w) (now (sequences .entry)) (now (pages .entry)) (now (blocks .entry)) v base r ⌝ }
 {
-    let mut v = w;
-    v.point = moved_point(w, sequences, pages, blocks, base);
-    v.base = base;
-    v
+    let mut h = v;
+    h.point = moved_point(w, v, sequences, pages, blocks, base);
+    h.base = base;
+    h
 }
 
 // Whether the base is below 2^31 and the point is the one worked out afresh.

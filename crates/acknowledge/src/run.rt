@@ -1,7 +1,6 @@
 // The live sequences of one page, from one of its positions upwards. `sequences` are the 64 cells of the page, and `row` says which
 // sequences are asked for: 64 × row + j at position j.
 use page_base::PageWords;
-use window::memory::PAGE_SLOTS;
 ghost use mathlib.Core.Path.{_≡_};
 ghost use Prim.Native.Nat.{_<_};
 ghost use lib.ListN.{length};
@@ -12,17 +11,15 @@ fn dense_run(sequences: &[u32], filled: u64, slot: usize, row: u32) -> usize
     requires { ⌜ (length (now sequences) ≡ 64) × (slot < 64) ⌝ }
     ensures { λ r. ⌜ DenseRun (now (sequences .entry)) filled slot row r ⌝ }
 {
+    let end = words::lowest(!filled, slot);
     let mut c = slot;
-    while c < PAGE_SLOTS {
-        if words::bit(filled, c) == 0 {
-            return c;
-        }
+    while c < end {
         if sequences[c] / 64 != row {
             return c;
         }
         c += 1;
     }
-    PAGE_SLOTS
+    end
 }
 
 // Of a sparse page: bit j, the sequence asked for at position j is in one of the first n cells.

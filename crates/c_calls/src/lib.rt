@@ -6,7 +6,6 @@ pub mod version;
 use call_point::exchange::exchange;
 use call_point::insert::insert;
 use call_point::remove::remove;
-use call_point::set_base::set_base;
 use call_read::first_from;
 use call_read::get;
 use call_read::iter;
@@ -18,7 +17,7 @@ use window::answers::Step;
 use window::refusals::refusal_number;
 ghost use mathlib.Core.Path.{_≡_};
 ghost use Rattle.window.specs.New.{fresh, answerOf as newAnswerOf};
-ghost use Rattle.model.specs.Calls.{get as getOf, successor-after, first-from, iter as iterOf, insert as insertOf, exchange as exchangeOf, remove as removeOf, set-base, ask};
+ghost use Rattle.model.specs.Calls.{get as getOf, successor-after, first-from, iter as iterOf, insert as insertOf, exchange as exchangeOf, remove as removeOf, ask};
 ghost use Rattle.call_base.specs.Answers.{answerOf};
 ghost use Rattle.c_calls.specs.Numbers.{numbered as numberedOf, numbersOf, SameStep, numbersOfNew, NumbersMeetBy, NumbersMeetInto, CreatesBy};
 
@@ -241,18 +240,4 @@ pub extern "C" fn packet_window_insert(
         sequence,
         value,
     ))
-}
-
-#[no_mangle]
-pub extern "C" fn packet_window_set_base(
-    w: AdaptiveReceiverPacketWindow,
-    sequences: &[u32],
-    values: &[u32],
-    pages: &[u64],
-    blocks: &[u64],
-    base: u32,
-) -> NumberedStep
-    ensures { λ r. ⌜ NumbersMeetBy (set-base base) w sequences values pages blocks r ⌝ }
-{
-    in_numbers(set_base(w, sequences, values, pages, blocks, base))
 }

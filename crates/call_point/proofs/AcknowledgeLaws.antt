@@ -41,11 +41,11 @@ use Rattle.call_point.specs.Contracts.{isFound, KeepsInserted, KeepsTake
 -- ---- steps: the point of step x, where its answer says that the call moved it
 
 module _ (w : AdaptiveReceiverPacketWindow) (ss pages blocks : List ℕ) (s : ℕ) (x : Step) where
-  pub new-kept : (h r : AdaptiveReceiverPacketWindow) → x .answer .answer ≡ New → h ≡ withSizes (x .window) w → acknowledge.Inserts h ss pages blocks s r
+  pub new-kept : (r : AdaptiveReceiverPacketWindow) → x .answer .answer ≡ New → acknowledge.Inserts (withSizes (x .window) w) ss pages blocks (x .window) s r
       → KeepsInserted w ss pages blocks s x (record { window = r; answer = x .answer })
-  new-kept h r a e i = record {
+  new-kept r a i = record {
     outcome = refl;
-    new = λ t. subst (λ (k : AdaptiveReceiverPacketWindow). acknowledge.Inserts k ss pages blocks s r) e i;
+    new = λ t. i;
     old = λ t. absurd (true≢false (sym (ap (λ (y : Answer). isNew (answerOf y)) a) ∙ t));
   }
 
@@ -85,12 +85,11 @@ pub none-taken : (s : ℕ) (x : Step) → isFound (answerOf (x .answer .answer))
 none-taken s x e = record { outcome = refl; window = ap (λ (b : Bool). setPoint (x .window) (afterRemove (x .window .base) (x .window .point) s b)) (sym e) }
 
 module _ (w : AdaptiveReceiverPacketWindow) (ss pages blocks : List ℕ) (x : Step) where
-  pub found-moves : (v : ℕ) (h : AdaptiveReceiverPacketWindow) (next : ℕ) (r : AdaptiveReceiverPacketWindow) → x .answer .answer ≡ Found v
-      → h ≡ withSizes (x .window) w → next ≡ sequenceAt (w .base) 1 → MovesBase h ss pages blocks next r
-      → MovesFront w ss pages blocks x (record { window = r; answer = x .answer })
-  found-moves v h next r a e n i = record {
+  pub found-moves : (v next : ℕ) (r : AdaptiveReceiverPacketWindow) → x .answer .answer ≡ Found v → next ≡ sequenceAt (w .base) 1
+      → MovesBase (withSizes (x .window) w) ss pages blocks (x .window) next r → MovesFront w ss pages blocks x (record { window = r; answer = x .answer })
+  found-moves v next r a n i = record {
     outcome = refl;
-    found = λ t. subst (λ (y : ℕ). MovesBase (withSizes (x .window) w) ss pages blocks y r) n (subst (λ (k : AdaptiveReceiverPacketWindow). MovesBase k ss pages blocks next r) e i);
+    found = λ t. subst (λ (y : ℕ). MovesBase (withSizes (x .window) w) ss pages blocks (x .window) y r) n i;
     absent = λ t. absurd (true≢false (sym (ap (λ (y : Answer). isFound (answerOf y)) a) ∙ t));
   }
 
@@ -130,7 +129,7 @@ module _ (s v : ℕ) (listed : Bool) (w : AdaptiveReceiverPacketWindow) (m : Mem
         (λ e.
         let i = k .new e in
         let same = same-sizes c u l left a z ok in
-        let j = subst (λ (h : AdaptiveReceiverPacketWindow). acknowledge.Inserts h (m′ .sequences) (m′ .pages) (m′ .blocks) s (r .window)) same i in
+        let j = subst (λ (h : AdaptiveReceiverPacketWindow). acknowledge.Inserts h (m′ .sequences) (m′ .pages) (m′ .blocks) (x .window) s (r .window)) same i in
         j .header ∙ ap (setPoint (x .window)) (j .point (m′ .values) (left-sound c u l left a z ok)
         ∙ ap (afterInsert (x .window .«window_size») (liveAt (windowOf (left .state))) (x .window .base) (x .window .point) s) (sym e ∙ ap isNew (is-answer ok))))
         (λ e. k .old e ∙ ap (λ (b : Bool). setPoint (x .window) (afterInsert (x .window .«window_size») (liveAt (windowOf (left .state))) (x .window .base) (x .window .point) s b))
@@ -220,7 +219,7 @@ module _ (w : AdaptiveReceiverPacketWindow) (m : Memory) (x : Step) (m′ : Memo
         let says = is-found base found x m′ a z ok in
         bool (finds base (liveHere (windowOf found) base))
         (λ e.
-        let j = subst (λ (h : AdaptiveReceiverPacketWindow). MovesBase h (m′ .sequences) (m′ .pages) (m′ .blocks) next (r .window))
+        let j = subst (λ (h : AdaptiveReceiverPacketWindow). MovesBase h (m′ .sequences) (m′ .pages) (m′ .blocks) (x .window) next (r .window))
         (same-sizes (remove base) found [] gone a z ok) (k .found (says ∙ e)) in
         let works = subst (λ (y : Window). pointFor (withHeader y (setBase (y .header) next)) ≡ afterSetBase (sizeOf y) (liveAt y) (y .header .base) (y .header .point) next)
         (sym is) (front-works (windowOf found) (proper (remove base) found [] gone a z ok) ok z) in
@@ -257,7 +256,7 @@ module _ (w : AdaptiveReceiverPacketWindow) (m : Memory) (x : Step) (m′ : Memo
 -- ---- set_base
 
 pub base-acts : (s : ℕ) (w : AdaptiveReceiverPacketWindow) (m : Memory) (h : AdaptiveReceiverPacketWindow)
-    → argumentRefusal (knownBy (windowOf (stateOf w m) .header)) (set-base s) ≡ 0 → MovesBase w (m .sequences) (m .pages) (m .blocks) s h
+    → argumentRefusal (knownBy (windowOf (stateOf w m) .header)) (set-base s) ≡ 0 → MovesBase w (m .sequences) (m .pages) (m .blocks) w s h
     → Acts (set-base s) (stateOf w m) [] (leftOf (replied h Done) m [])
 unfolding decode windowDoes
 base-acts s w m h z k =

@@ -158,7 +158,7 @@ isFound (model.refused k) = false
 -- r is the step x of an insert of sequence s into the window w, with the point after it
 pub record KeepsInserted (w : AdaptiveReceiverPacketWindow) (ss pages blocks : List ℕ) (s : ℕ) (x r : Step) : Type 0 where
   pub outcome : r .answer ≡ x .answer
-  pub new : isNew (answerOf (x .answer .answer)) ≡ true → acknowledge.Inserts (withSizes (x .window) w) ss pages blocks s (r .window)
+  pub new : isNew (answerOf (x .answer .answer)) ≡ true → acknowledge.Inserts (withSizes (x .window) w) ss pages blocks (x .window) s (r .window)
   pub old : isNew (answerOf (x .answer .answer)) ≡ false → r .window ≡ x .window
 
 -- r is the step x of a remove of sequence s, with the point after it
@@ -169,5 +169,5 @@ pub record KeepsTaken (s : ℕ) (x r : Step) : Type 0 where
 -- r is the step x of a remove of the base of w, with the base moved by one if it was found, and the point after it
 pub record MovesFront (w : AdaptiveReceiverPacketWindow) (ss pages blocks : List ℕ) (x r : Step) : Type 0 where
   pub outcome : r .answer ≡ x .answer
-  pub found : isFound (answerOf (x .answer .answer)) ≡ true → MovesBase (withSizes (x .window) w) ss pages blocks (sequenceAt (w .base) 1) (r .window)
+  pub found : isFound (answerOf (x .answer .answer)) ≡ true → MovesBase (withSizes (x .window) w) ss pages blocks (x .window) (sequenceAt (w .base) 1) (r .window)
   pub absent : isFound (answerOf (x .answer .answer)) ≡ false → r .window ≡ x .window

@@ -1,6 +1,5 @@
 // insert: the sequence and the value into the window. A retired page is first released whole.
 use acknowledge::after_insert;
-use acknowledge::with_sizes;
 use call_base::admits::Arguments;
 use call_base::admits::admits;
 use call_base::reachable;
@@ -265,9 +264,8 @@ fn keep_point(
     let outcome = step.answer;
     let given = outcome.answer;
     if let Answer::New = given {
-        let sized = with_sizes(left, w);
         return Step {
-            window: after_insert(sized, sequences, pages, blocks, sequence),
+            window: after_insert(w, left, sequences, pages, blocks, sequence),
             answer: outcome,
         };
     }

@@ -34,5 +34,8 @@ pub fn set_base(
     if let Verdict::Refuse(why) = verdict {
         return refuse(w, why);
     }
-    reply(after_base(w, sequences, pages, blocks, base), Answer::Done)
+    reply(
+        after_base(w, w, sequences, pages, blocks, base),
+        Answer::Done,
+    )
 }

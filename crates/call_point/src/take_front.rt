@@ -1,12 +1,11 @@
 // take_front: the value of the base, removed, and the base moved by one. If the base is absent, nothing moves.
+use crate::remove::remove_value;
 use acknowledge::after_base;
 use acknowledge::sequence_at;
-use acknowledge::with_sizes;
 use call_base::admits::Arguments;
 use call_base::admits::NO_LIST;
 use call_base::admits::admits;
 use call_base::refuse;
-use crate::remove::remove_value;
 use window::AdaptiveReceiverPacketWindow;
 use window::answers::Answer;
 use window::answers::Step;
@@ -31,10 +30,9 @@ fn move_base(
     let outcome = step.answer;
     let given = outcome.answer;
     if let Answer::Found(value) = given {
-        let sized = with_sizes(left, w);
         let next = sequence_at(w.base, 1);
         return Step {
-            window: after_base(sized, sequences, pages, blocks, next),
+            window: after_base(w, left, sequences, pages, blocks, next),
             answer: outcome,
         };
     }

@@ -3,7 +3,7 @@
 use mathlib.Core.Path.{_≡_, refl, ap, subst, sym, _∙_}
 use mathlib.Core.Bool.{Bool}
 use mathlib.Core.List.{List}
-use Prim.Native.Nat.{ℕ, _≤_}
+use Prim.Native.Nat.{ℕ}
 use Rattle.window.specs.declared.AdaptiveReceiverPacketWindow.{AdaptiveReceiverPacketWindow}
 use Rattle.window.specs.declared.answers.Outcome.{Outcome}
 use Rattle.window.specs.declared.answers.Step.{Step}
@@ -17,7 +17,6 @@ use Rattle.laws_acknowledge.specs.Increments.{afterRange}
 use Rattle.laws_acknowledge.proofs.WindowLaws.{Works, range-works, clear-works, bounded-works, release-works}
 use Rattle.call_base.specs.Answers.{stateOf, leftOf}
 use Rattle.call_base.specs.Contracts.{Admitted, Acts}
-use Rattle.acknowledge.specs.Contracts.{withSizes}
 use Rattle.acknowledge.proofs.ActLaws.{proper, same-sizes, works-acts, still-acts}
 use Rattle.call_retire.specs.Finish.{clearedStep, KeepsRange}
 
@@ -61,27 +60,14 @@ module _ (first last : ℕ) (listed : Bool) (w : AdaptiveReceiverPacketWindow) (
   abbrev left : Left
   left = leftOf x m′ l′
 
-  abbrev ranged : AdaptiveReceiverPacketWindow → AdaptiveReceiverPacketWindow
-  ranged h = setPoint h (afterRange (capacity (h .«window_size»)) (position (h .«window_size») first) (rangeCount first last) (h .base) (h .point))
+  abbrev ranged : ℕ → AdaptiveReceiverPacketWindow
+  ranged size = let h = x .window in setPoint h (afterRange (capacity size) (position size first) (rangeCount first last) (h .base) (h .point))
 
   pub range-acts : Admitted c u l left → argumentRefusal (knownBy (windowOf u .header)) c ≡ 0 → (left .answer ≡ refused 4 → ⊥)
-      → (count : ℕ) → count ≡ rangeCount first last → (r : Step) → KeepsRange w first count x r → Acts c u l (leftOf r m′ l′)
+      → (count : ℕ) → count ≡ rangeCount first last → (r : Step) → KeepsRange (w .«window_size») first count x r → Acts c u l (leftOf r m′ l′)
   range-acts a z never count many r k =
-      let j = subst (λ (n : ℕ). KeepsRange w first n x r) many k in
+      let j = subst (λ (n : ℕ). KeepsRange (w .«window_size») first n x r) many k in
       subst (λ (o : Outcome). Acts c u l (leftOf (record { window = r .window; answer = o }) m′ l′)) (sym (k .outcome))
       (works-acts c u l left (r .window) (λ n t base point. afterRange (capacity n) (position n first) (rangeCount first last) base point) a z
       (λ ok. range-works (windowOf u) (proper c u l left a z ok) ok first last listed z)
-      (λ ok. j .window ∙ ap ranged (same-sizes c u l left a z ok)) (λ ok e. absurd (never e)))
-
--- the step of the range's own function
-module _ (w : AdaptiveReceiverPacketWindow) (first count : ℕ) (x : Step) (h : AdaptiveReceiverPacketWindow) (e : h ≡ withSizes (x .window) w) where
-  pub sized-fits : (w .«window_size» ≤ 65536) × (count ≤ capacity (w .«window_size»)) → (h .«window_size» ≤ 65536) × (count ≤ capacity (h .«window_size»))
-  sized-fits f = subst (λ (k : AdaptiveReceiverPacketWindow). (k .«window_size» ≤ 65536) × (count ≤ capacity (k .«window_size»))) (sym e) f
-
-  pub range-kept : (r : AdaptiveReceiverPacketWindow)
-      → r ≡ setPoint h (afterRange (capacity (h .«window_size»)) (position (h .«window_size») first) count (h .base) (h .point))
-      → KeepsRange w first count x (record { window = r; answer = x .answer })
-  range-kept r k = record {
-    outcome = refl;
-    window = k ∙ ap (λ (g : AdaptiveReceiverPacketWindow). setPoint g (afterRange (capacity (g .«window_size»)) (position (g .«window_size») first) count (g .base) (g .point))) e;
-  }
+      (λ ok. j .window ∙ ap ranged (ap (λ (h : AdaptiveReceiverPacketWindow). h .«window_size») (same-sizes c u l left a z ok))) (λ ok e. absurd (never e)))

@@ -10,7 +10,6 @@ use Rattle.window.specs.declared.refusals.Refusal.the-variants.{Unsound}
 use Rattle.window.specs.Memory.{capacity, position}
 use Rattle.model.specs.Steps.{setPoint}
 use Rattle.laws_acknowledge.specs.Increments.{afterRange}
-use Rattle.acknowledge.specs.Contracts.{withSizes}
 
 -- the answer, or refusal 7, with `count` values returned
 unfoldable pub finished : AdaptiveReceiverPacketWindow → Answer → ℕ → Bool → Step
@@ -22,8 +21,7 @@ finished w a count sound = record { window = w; answer = record { answer = cond 
 abbrev pub clearedStep : Step → Step
 clearedStep x = record { window = setPoint (x .window) (x .window .base); answer = x .answer }
 
--- r is the step x of a removal of `count` positions from first's in the window w, with the point after it
-pub record KeepsRange (w : AdaptiveReceiverPacketWindow) (first count : ℕ) (x r : Step) : Type 0 where
+-- r is the step x of a removal of `count` positions from first's in a window of this size, with the point after it
+pub record KeepsRange (size first count : ℕ) (x r : Step) : Type 0 where
   pub outcome : r .answer ≡ x .answer
-  pub window : let h = withSizes (x .window) w in
-      r .window ≡ setPoint h (afterRange (capacity (h .«window_size»)) (position (h .«window_size») first) count (h .base) (h .point))
+  pub window : let h = x .window in r .window ≡ setPoint h (afterRange (capacity size) (position size first) count (h .base) (h .point))

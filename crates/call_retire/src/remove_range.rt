@@ -1,7 +1,6 @@
 // remove_range: the live values at the positions from first's to last's retired, and a release visit with its whole budget.
-use acknowledge::after_range;
-use acknowledge::with_sizes;
 use crate::finish;
+use acknowledge::after_range;
 use block_marks::marks::settle_retired;
 use call_base::admits::Arguments;
 use call_base::admits::admits;
@@ -105,16 +104,15 @@ fn remove_positions(
     finish(window, Answer::Found(removed), at + visited.count, sound)
 }
 
-// The point after `count` positions from first's were emptied in the window `w`.
-fn keep_point(w: AdaptiveReceiverPacketWindow, step: Step, first: u32, count: usize) -> Step
-    requires { ⌜ (w .«window_size» ≤ 65536) × (count ≤ capacity (w .«window_size»)) ⌝ }
-    ensures { λ r. ⌜ KeepsRange w first count step r ⌝ }
+// The point after `count` positions from first's were emptied in a window of this size.
+fn keep_point(step: Step, size: u32, first: u32, count: usize) -> Step
+    requires { ⌜ (size ≤ 65536) × (count ≤ capacity size) ⌝ }
+    ensures { λ r. ⌜ KeepsRange size first count step r ⌝ }
 {
     let left = step.window;
     let answer = step.answer;
-    let sized = with_sizes(left, w);
     Step {
-        window: after_range(sized, first, count),
+        window: after_range(left, size, first, count),
         answer,
     }
 }
@@ -146,5 +144,5 @@ pub fn remove_range(
     let start = position(w.window_size, first);
     let count = range_count(first, last) as usize;
     let step = remove_positions(w, sequences, values, pages, blocks, returned, start, count);
-    keep_point(w, step, first, count)
+    keep_point(step, w.window_size, first, count)
 }

@@ -21,17 +21,15 @@ with-point-requires c κs = search needs
 returns : tie.Need-returns
 returns c =
     let s = c .before .before .before .before .before .args in
-    let size = s .w .«window_size» in
     c .with-point .ensures
-    ∙ ap (setPoint (s .w)) (c .before .sequence-at .ensures
-    ∙ range-before (capacity size) (position size (s .first)) (s .count) (s .w .base) (s .w .point) _ _ (c .before .before .before .before .first-covered .ensures) (c .before .before .before .distance .ensures) (c .before .before .if1 .taken))
+    ∙ ap (setPoint (s .v)) (c .before .sequence-at .ensures
+    ∙ range-before (capacity (s .size)) (position (s .size) (s .first)) (s .count) (s .v .base) (s .v .point) _ _ (c .before .before .before .before .first-covered .ensures) (c .before .before .before .distance .ensures) (c .before .before .if1 .taken))
 
 returns-2 : tie.Need-returns-2
 returns-2 c =
     let s = c .before .before .before .args in
-    let size = s .w .«window_size» in
-    ap (setPoint (s .w))
-    (range-after (capacity size) (position size (s .first)) (s .count) (s .w .base) (s .w .point) _ _ (c .before .before .first-covered .ensures) (c .before .distance .ensures) (c .if1 .left))
+    ap (setPoint (s .v))
+    (range-after (capacity (s .size)) (position (s .size) (s .first)) (s .count) (s .v .base) (s .v .point) _ _ (c .before .before .first-covered .ensures) (c .before .distance .ensures) (c .if1 .left))
 
 pub after-range-spec : {M : Type 1} → statement M
 after-range-spec =

@@ -16,7 +16,7 @@ returns : tie.Need-returns
 returns c =
     let s = c .before .before .before .args in
     let p = c .before .position .ensures in
-    least-own (s .w .«window_size») (s .w .base) (s .first) (s .count) (c .before .before .wrapping-sub-u32 .result) (omega arith) (c .before .before .wrapping-sub-u32 .ensures) (rw p at (c .if1 .taken))
+    least-own (s .size) (s .base) (s .first) (s .count) (c .before .before .wrapping-sub-u32 .result) (omega arith) (c .before .before .wrapping-sub-u32 .ensures) (rw p at (c .if1 .taken))
 
 wrapping-sub-u32-requires-2 : tie.Need-wrapping-sub-u32-requires-2
 wrapping-sub-u32-requires-2 c κs = search needs
@@ -27,14 +27,14 @@ position-requires-2 c κs = search needs
 cast-result : tie.Need-cast-result
 cast-result c =
     let s = c .before .before .before .before .before .args in
-    omega (arith, c .position2 .ensures, position-lt (s .w .«window_size») (c .before .wrapping-sub-u322 .result), capacity-le (s .w .«window_size»))
+    omega (arith, c .position2 .ensures, position-lt (s .size) (c .before .wrapping-sub-u322 .result), capacity-le (s .size))
 
 returns-2 : tie.Need-returns-2
 returns-2 c =
     let s = c .before .before .before .before .before .args in
     let p = c .before .before .before .position .ensures in
     c .position2 .ensures
-    ∙ least-first (s .w .«window_size») (s .w .base) (s .first) (s .count) (c .before .before .before .before .wrapping-sub-u32 .result) (omega arith) (c .before .before .before .before .wrapping-sub-u32 .ensures)
+    ∙ least-first (s .size) (s .base) (s .first) (s .count) (c .before .before .before .before .wrapping-sub-u32 .result) (omega arith) (c .before .before .before .before .wrapping-sub-u32 .ensures)
     (rw p at (c .before .before .if1 .left)) (c .before .wrapping-sub-u322 .result) (c .before .wrapping-sub-u322 .ensures)
 
 pub first-covered-spec : {M : Type 1} → statement M

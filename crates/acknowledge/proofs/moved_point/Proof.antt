@@ -1,11 +1,27 @@
-use mathlib.Core.Path.{_∙_}
+-- The point stays, or is looked for where the definition says. Assumes nothing.
+use mathlib.Core.Path.{sym, ap, _∙_}
+use mathlib.Core.List.{List}
+use Prim.Native.Nat.{ℕ}
+use native.Mathlib.Omega.{arith}
 use denote.Ref.{now}
+use Rattle.window.specs.declared.AdaptiveReceiverPacketWindow.{AdaptiveReceiverPacketWindow}
 use Rattle.window.specs.Memory.{memory}
+use Rattle.model.specs.Table.{Table, sequenceAt}
 use Rattle.model.specs.Window.{decode, liveAt}
-use Rattle.acknowledge.proofs.PointLaws.{set-past, set-no-point, set-kept, set-on}
+use Rattle.laws_acknowledge.specs.Advance.{advance}
+use Rattle.acknowledge.specs.Contracts.{withSizes}
+use Rattle.acknowledge.proofs.LentLaws.{sized-lent, sized-point}
+use Rattle.acknowledge.proofs.PointLaws.{set-kept, set-from, search-le}
 use borrow.Author.Needs.{needs}
 use Rattle.acknowledge.proofs.moved_point.Statement.{statement}
 use Rattle.acknowledge.proofs.moved_point.Tie as tie
+
+abbrev start : tie.After-distance2 → tie.Start
+start c = c .before .before .before .before .before
+
+-- the live pairs, whatever the values are
+abbrev live : tie.Start → List ℕ → Table
+live s vs = liveAt (decode (withSizes (s .args .v) (s .args .w)) (memory (now (s .args .sequences)) vs (now (s .args .pages)) (now (s .args .blocks))))
 
 distance-requires : tie.Need-distance-requires
 distance-requires c κs = search needs
@@ -13,37 +29,51 @@ distance-requires c κs = search needs
 distance-requires-2 : tie.Need-distance-requires-2
 distance-requires-2 c κs = search needs
 
-point-from-requires : tie.Need-point-from-requires
-point-from-requires c κs = search needs
+point-stays-requires : tie.Need-point-stays-requires
+point-stays-requires c κs = search needs
 
 returns : tie.Need-returns
 returns c =
-    let s = c .before .before .before .before .before .before .before .args in
-    record { is = λ vs ok. c .point-from .ensures .is vs ok ∙ set-past (s .w .«window_size») (liveAt (decode (s .w) (memory (now (s .sequences)) vs (now (s .pages)) (now (s .blocks))))) (s .w .base) (s .w .point) (s .base) _ _ (c .before .before .distance2 .ensures) (c .before .before .before .distance .ensures) (c .before .if1 .taken) }
+    let d : tie.After-distance2 = c .before .before in
+    let s = start d in
+    record {
+      is = λ vs ok.
+          set-kept (s .args .w .«window_size») (live s vs) (s .args .v .base) (s .args .v .point) (s .args .base) _ _ (d .distance2 .ensures) (d .before .distance .ensures)
+          (sym (c .before .point-stays .ensures) ∙ c .if1 .taken);
+    }
 
-point-from-requires-2 : tie.Need-point-from-requires-2
-point-from-requires-2 c κs = search needs
+search-from-requires : tie.Need-search-from-requires
+search-from-requires c κs = search needs
+
+with-sizes-requires : tie.Need-with-sizes-requires
+with-sizes-requires c κs = search needs
+
+point-from-requires : tie.Need-point-from-requires
+point-from-requires c κs =
+    let f : tie.After-search-from = c .before in
+    let s = start (f .before .before .before) in (
+      sized-lent (s .args .v) (s .args .w) _ (now (s .args .sequences)) (now (s .args .pages)) (now (s .args .blocks)) (c .with-sizes .ensures) (s .pre),
+      omega (
+        arith,
+        f .search-from .ensures,
+        search-le (s .args .w .«window_size») (f .before .before .before .before .distance .result) (f .before .before .before .distance2 .result),
+        ap (λ (h : AdaptiveReceiverPacketWindow). h .«window_size») (c .with-sizes .ensures),
+      ),
+    )
 
 returns-2 : tie.Need-returns-2
 returns-2 c =
-    let s = c .before .before .before .before .before .before .before .before .args in
-    record { is = λ vs ok. c .point-from2 .ensures .is vs ok ∙ set-no-point (s .w .«window_size») (liveAt (decode (s .w) (memory (now (s .sequences)) vs (now (s .pages)) (now (s .blocks))))) (s .w .base) (s .w .point) (s .base) _ _ (c .before .before .before .distance2 .ensures) (c .before .before .before .before .distance .ensures) (c .before .before .if1 .left) (c .before .if2 .taken) }
-
-returns-3 : tie.Need-returns-3
-returns-3 c =
-    let s = c .before .before .before .before .before .before .before .before .args in
-    record { is = λ vs ok. set-kept (s .w .«window_size») (liveAt (decode (s .w) (memory (now (s .sequences)) vs (now (s .pages)) (now (s .blocks))))) (s .w .base) (s .w .point) (s .base) _ _ (c .before .before .before .distance2 .ensures) (c .before .before .before .before .distance .ensures) (c .before .before .if1 .left) (c .if3 .taken) }
-
-sub-point-from : tie.Need-sub-point-from
-sub-point-from c = search needs
-
-point-from-requires-3 : tie.Need-point-from-requires-3
-point-from-requires-3 c κs = search needs
-
-returns-4 : tie.Need-returns-4
-returns-4 c =
-    let s = c .before .before .before .before .before .before .before .before .before .args in
-    record { is = λ vs ok. c .point-from3 .ensures .is vs ok ∙ set-on (s .w .«window_size») (liveAt (decode (s .w) (memory (now (s .sequences)) vs (now (s .pages)) (now (s .blocks))))) (s .w .base) (s .w .point) (s .base) _ _ (c .before .before .before .before .distance2 .ensures) (c .before .before .before .before .before .distance .ensures) (c .before .before .before .if1 .left) (c .before .before .if2 .left) (c .before .if3 .left) }
+    let z : tie.After-with-sizes = c .before in
+    let f : tie.After-search-from = z .before in
+    let p : tie.After-point-stays = f .before .before in
+    let d : tie.After-distance2 = p .before in
+    let s = start d in
+    record {
+      is = λ vs ok. sized-point (s .args .v) (s .args .w) _ _ _ _ _ _ _ (z .with-sizes .ensures) (c .point-from .ensures) .is vs ok
+          ∙ ap (λ (n : ℕ). sequenceAt (s .args .base) (advance (s .args .w .«window_size») (live s vs) (s .args .base) n)) (f .search-from .ensures)
+          ∙ set-from (s .args .w .«window_size») (live s vs) (s .args .v .base) (s .args .v .point) (s .args .base) _ _ (d .distance2 .ensures) (d .before .distance .ensures)
+          (sym (p .point-stays .ensures) ∙ f .before .if1 .left);
+    }
 
 pub moved-point-spec : {M : Type 1} → statement M
 moved-point-spec =
@@ -51,11 +81,9 @@ moved-point-spec =
     (tie.spec
     distance-requires
     distance-requires-2
-    point-from-requires
+    point-stays-requires
     returns
-    point-from-requires-2
-    returns-2
-    returns-3
-    sub-point-from
-    point-from-requires-3
-    returns-4)
+    search-from-requires
+    with-sizes-requires
+    point-from-requires
+    returns-2)

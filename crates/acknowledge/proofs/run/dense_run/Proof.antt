@@ -1,40 +1,41 @@
 -- The cells passed are in use and of the row; the first that is not ends the run. Assumes nothing.
 use Prim.Native.Nat.{ℕ, _-_, _≤_, _<_}
 use native.Mathlib.Omega.{arith}
-use Rattle.words.proofs.BitLaws.{bit-lt}
 use Rattle.acknowledge.specs.Contracts.{InRow}
-use Rattle.acknowledge.proofs.RunLaws.{row-more}
+use Rattle.acknowledge.proofs.RunLaws.{row-more, end-from, end-top, used-before, unused-at}
 use borrow.Author.Needs.{needs}
 use Rattle.acknowledge.proofs.run.dense_run.Statement.{statement}
 use Rattle.acknowledge.proofs.run.dense_run.Tie as tie
 
 abbrev Inv-loop : tie.InvT-loop
-Inv-loop sequences filled slot row c₀ c = (slot ≤ c) × (c ≤ 64) × ((k : ℕ) → slot ≤ k → k < c → InRow sequences filled row k)
+Inv-loop sequences filled slot row end c₀ c = (slot ≤ c) × (c ≤ end) × (end ≤ 64) × ((k : ℕ) → slot ≤ k → k < c → InRow sequences filled row k)
 
 abbrev μ-loop : tie.MeasureT-loop
-μ-loop sequences filled slot row c₀ c = 64 - c
+μ-loop sequences filled slot row end c₀ c = end - c
+
+lowest-requires : tie.Need-lowest-requires Inv-loop μ-loop
+lowest-requires c κs = search needs
 
 loop-holds : tie.Need-loop-holds Inv-loop μ-loop
-loop-holds c = (omega arith, omega arith, λ k a b. absurd (omega arith))
+loop-holds c =
+    let s = c .before .before in
+    let e = c .lowest .ensures in (
+      omega arith,
+      end-from (s .args .filled) (s .args .slot) _ (omega arith) (omega arith) e,
+      end-top (s .args .filled) (s .args .slot) _ (omega arith) (omega arith) e,
+      λ k a b. absurd (omega arith),
+    )
 
-bit-requires : tie.Need-bit-requires Inv-loop μ-loop
-bit-requires c κs = search needs
+mul-if1 : tie.Need-mul-if1 Inv-loop μ-loop
+mul-if1 c = search needs
+
+shared-slice-read-if1 : tie.Need-shared-slice-read-if1 Inv-loop μ-loop
+shared-slice-read-if1 c = search needs
 
 returns : tie.Need-returns Inv-loop μ-loop
 returns c =
     let i = c .before .before .before .loop .inv in
-    record { from = i .0; top = i .1; held = i .2; missed = λ l r. omega (arith, r .0, c .before .bit .ensures, c .if1 .taken) }
-
-mul-if2 : tie.Need-mul-if2 Inv-loop μ-loop
-mul-if2 c = search needs
-
-shared-slice-read-if2 : tie.Need-shared-slice-read-if2 Inv-loop μ-loop
-shared-slice-read-if2 c = search needs
-
-returns-2 : tie.Need-returns-2 Inv-loop μ-loop
-returns-2 c =
-    let i = c .before .before .before .before .before .loop .inv in
-    record { from = i .0; top = i .1; held = i .2; missed = λ l r. omega (arith, r .1, c .if2 .taken) }
+    record { from = i .0; top = omega (arith, i .1, i .2); held = i .3; missed = λ l r. omega (arith, r .1, c .if1 .taken) }
 
 add-c : tie.Need-add-c Inv-loop μ-loop
 add-c c = search needs
@@ -44,19 +45,29 @@ loop-less c = search needs
 
 loop-again : tie.Need-loop-again Inv-loop μ-loop
 loop-again c =
-    let a = c .before .before .before .before .before .before .before .args in
-    let i = c .before .before .before .before .before .loop .inv in
-    let j = c .before .before .before .before .before .loop .c in (
+    let h : tie.At-loop Inv-loop μ-loop = c .before .before .before in
+    let low : tie.After-lowest Inv-loop μ-loop = h .before in
+    let s = low .before .before in
+    let i = h .loop .inv in
+    let j = h .loop .c in (
       omega arith,
       omega arith,
-      row-more (a .sequences .now) (a .filled) (a .row) (a .slot) j (i .2)
-          (omega (arith, c .before .before .before .bit .ensures, c .before .before .if1 .left, bit-lt (a .filled) j), omega (arith, c .if2 .left)),
+      omega arith,
+      row-more (s .args .sequences .now) (s .args .filled) (s .args .row) (s .args .slot) j (i .3)
+          (used-before (s .args .filled) (s .args .slot) _ (omega arith) (omega arith) (low .lowest .ensures) j (i .0) (omega arith), omega (arith, c .if1 .left)),
     )
 
-returns-3 : tie.Need-returns-3 Inv-loop μ-loop
-returns-3 c =
+returns-2 : tie.Need-returns-2 Inv-loop μ-loop
+returns-2 c =
+    let low : tie.After-lowest Inv-loop μ-loop = c .before .before in
+    let s = low .before .before in
     let i = c .before .loop .inv in
-    record { from = omega arith; top = omega arith; held = λ k a b. i .2 k a (omega arith); missed = λ l r. omega arith }
+    record {
+      from = omega (arith, i .0, i .1);
+      top = i .2;
+      held = λ k a b. i .3 k a (omega (arith, b, c .loop-test .left));
+      missed = λ l r. omega (arith, r .0, unused-at (s .args .filled) (s .args .slot) _ (omega arith) (omega arith) (low .lowest .ensures) l);
+    }
 
 pub dense-run-spec : {M : Type 1} → statement M
 dense-run-spec =
@@ -64,13 +75,12 @@ dense-run-spec =
     (tie.spec
     Inv-loop
     μ-loop
+    lowest-requires
     loop-holds
-    bit-requires
+    mul-if1
+    shared-slice-read-if1
     returns
-    mul-if2
-    shared-slice-read-if2
-    returns-2
     add-c
     loop-less
     loop-again
-    returns-3)
+    returns-2)

@@ -1,10 +1,10 @@
 use borrow.Author.Needs.{needs}
 use Rattle.c_calls.proofs.NumberLaws.{in-numbers}
-use Rattle.c_calls.proofs.packet_window_set_base.Statement.{statement}
-use Rattle.c_calls.proofs.packet_window_set_base.Tie as tie
-use Rattle.c_calls.proofs.packet_window_set_base.Reads as reads
-use Rattle.c_calls.proofs.packet_window_set_base.Lts as lts
+use Rattle.c_audit.proofs.packet_window_set_base.Statement.{statement}
+use Rattle.c_audit.proofs.packet_window_set_base.Tie as tie
+use Rattle.c_audit.proofs.packet_window_set_base.Reads as reads
+use Rattle.c_audit.proofs.packet_window_set_base.Lts as lts
 use Rattle.c_calls.proofs.in_numbers.Reads as in-numbers-reads
 use Rattle.call_point.proofs.set_base.set_base.Reads as set-base-reads
 
 set-base-requires : tie.Need-set-base-requires
