@@ -74,8 +74,8 @@ extern "C" {
 
 /* ---- version */
 
-/* 10000 * major + 100 * minor + patch: 0.1.1. CHANGELOG.md says what each version changed. */
-#define PACKET_WINDOW_VERSION 101u
+/* 10000 * major + 100 * minor + patch: 0.2.0. CHANGELOG.md says what each version changed. */
+#define PACKET_WINDOW_VERSION 200u
 
 /*
  * The version of the library that is linked. Compare it with PACKET_WINDOW_VERSION once, before the first call: with another version the
