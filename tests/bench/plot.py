@@ -68,7 +68,7 @@ SIZES = {
     "4096": ("triangle", "#2f7d4f"),
     "65536": ("diamond", "#2b1b4d"),
 }
-RATIOS = [0.1, 0.2, 0.5, 1, 2, 5, 10, 20]
+RATIOS = [0.02, 0.05, 0.1, 0.2, 0.5, 1, 2, 5, 10, 20]
 
 
 def table():
@@ -88,15 +88,15 @@ def table():
 def bench():
     rows = table()
     left, right, top, height = 270, 1000, 92, 28
-    low, high = 0.08, 40
+    low, high = 0.014, 40
     bottom = top + height * len(rows)
     picture = Picture(1040, bottom + 62, "Time of a call of the library, as a ratio to the source's")
 
     def across(ratio):
-        return left + (right - left) * math.log(ratio / low) / math.log(high / low)
+        return left + (right - left) * math.log(min(max(ratio, low), high) / low) / math.log(high / low)
 
     picture.text(left, 26, "Time of a call of the library, as a ratio to the source's", 17, bold=True)
-    picture.text(left, 47, "left of the line at 1.0 the library is faster; the source as rustc inlines it", 13)
+    picture.text(left, 47, "left of the line at 1.0 the library is faster; the source as rustc inlines it; a mark at an edge lies beyond it", 13)
     place = left
     picture.text(place, 72, "window size:", 13)
     for size, (shape, colour) in SIZES.items():
