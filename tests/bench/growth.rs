@@ -53,7 +53,7 @@ enum Calls {
     Release,
     /// The front taken, the next value inserted at the point.
     Front,
-    /// The oldest value removed, the base set past it, the next one inserted at the point.
+    /// The base set past the oldest value, that removed, the next one inserted at the point.
     SetBase,
     /// Live values in a row after the base, which is inserted and removed; the point is asked for after each call.
     Hole,
@@ -69,7 +69,7 @@ const CALLS_NAMED: [(Calls, &str); 11] = [
     (Calls::Iter, "iter step"),
     (Calls::Release, "release_retired"),
     (Calls::Front, "insert at the point, take_front"),
-    (Calls::SetBase, "insert at the point, remove, set_base"),
+    (Calls::SetBase, "insert at the point, set_base, remove"),
     (Calls::Hole, "hole before them filled and made again"),
 ];
 
@@ -152,8 +152,8 @@ fn made<W: Window>(w: &mut W, calls: Calls, held: Held, asked: &[u32], from: &mu
         }
         Calls::SetBase => {
             for sequence in *from..*from + CALLS / 3 {
-                add(w.remove(sequence - held.live));
                 add(w.set_base(sequence - held.live + 1));
+                add(w.remove(sequence - held.live));
                 add(w.insert(sequence, !sequence));
             }
             *from += CALLS / 3;
