@@ -39,7 +39,9 @@
  * ACKNOWLEDGE POINT. The header's base is 0 in a new window; packet_window_set_base sets it, and packet_window_take_front moves it by
  * one. Its point is the first sequence from the base, in 31-bit circular order, that is not live (packet_window_get does not find it), or
  * base + window_size if the window_size sequences from the base are all live; sums are modulo 2^31. Every call leaves it right, refused
- * ones too. It is the number that an acknowledgement carries.
+ * ones too. It is the number that an acknowledgement carries. Each call takes a bounded number of steps for it, but for two: an insert at
+ * the point passes over what is live after it, and packet_window_set_base to a sequence that is not in base .. point looks from there on.
+ * So take values by packet_window_take_front, or set the base on before the values before it are removed.
  *
  * VALUES HANDED BACK. The window gives each accepted value back exactly once:
  *     - in answer.first, when packet_window_insert answers PACKET_WINDOW_REPLACED, and when packet_window_exchange,

@@ -135,7 +135,8 @@ impl<'m> Window<'m> {
         answers::found(writing!(self, packet_window_remove(sequence)).answer)
     }
 
-    /// Sets the base, forwards or backwards, also away from all values. Nothing is removed.
+    /// Sets the base, forwards or backwards, also away from all values. Nothing is removed. Up to the point it takes a bounded number of
+    /// steps; to any other sequence, the live ones from there on are passed over.
     ///
     /// Refused: `Base`.
     pub fn set_base(&mut self, base: u32) -> Result<(), Refusal> {
