@@ -10,7 +10,7 @@ use Rattle.words.proofs.CaseLaws.{bool, both}
 use Rattle.model.specs.Table.{Table, sequenceAt, distance}
 use Rattle.laws_acknowledge.specs.Advance.{advance}
 use Rattle.laws_acknowledge.specs.Increments.{afterInsert, afterRemove, leastCovered, afterRange, afterSetBase}
-use Rattle.acknowledge.specs.Contracts.{pointStays, searchFrom}
+use Rattle.acknowledge.specs.Contracts.{pointStays, advanceFrom}
 
 -- ---- insert; `far` is the point's distance
 
@@ -62,7 +62,7 @@ module _ (size : ℕ) (t : Table) (base point s near far : ℕ) (d : near ≡ di
       let h = ltb-true far size (b .1) in
       rw (← d, ← e, le-leb near far l, le-leb far size (omega arith), lt-ltb far size h)
 
-  pub set-from : pointStays size far near ≡ false → sequenceAt s (advance size t s (searchFrom size far near)) ≡ afterSetBase size t base point s
+  pub set-from : pointStays size far near ≡ false → sequenceAt s (advance size t s (advanceFrom size far near)) ≡ afterSetBase size t base point s
   set-from n = elim (decLe near far) [
     | yes l ↦ elim (ℕ-discrete far size) [
       | yes q ↦ rw (le-leb near far l, eq-eqb far size q) (set-on l (omega arith) (omega arith))
@@ -81,5 +81,5 @@ module _ (size : ℕ) (t : Table) (base point s near far : ℕ) (d : near ≡ di
           stays l h = rw (le-leb near far l, lt-ltb far size h)
 
 -- and it begins inside the window
-pub search-le : (size reach d : ℕ) → searchFrom size reach d ≤ size
-search-le size reach d = bool (leb d reach && eqb reach size) (λ e. rw e (omega arith)) (λ e. rw e (omega arith))
+pub advance-from-le : (size reach d : ℕ) → advanceFrom size reach d ≤ size
+advance-from-le size reach d = bool (leb d reach && eqb reach size) (λ e. rw e (omega arith)) (λ e. rw e (omega arith))

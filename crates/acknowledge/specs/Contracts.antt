@@ -65,12 +65,12 @@ withSizes v w = record {
   demotions = v .demotions;
 }
 
--- a point `reach` from its base stays for a base that is d on; if not, it is looked for from this distance on
+-- a point `reach` from its base stays for a base that is d on; if not, the advance is from this distance on
 abbrev pub pointStays : (size reach d : ℕ) → Bool
 pointStays size reach d = leb d reach && ltb reach size
 
-abbrev pub searchFrom : (size reach d : ℕ) → ℕ
-searchFrom size reach d = cond (leb d reach && eqb reach size) (size - d) 0
+abbrev pub advanceFrom : (size reach d : ℕ) → ℕ
+advanceFrom size reach d = cond (leb d reach && eqb reach size) (size - d) 0
 
 -- the lists that are looked at are as long as the header names them
 pub record ListsLent (h : AdaptiveReceiverPacketWindow) (ss pages blocks : List ℕ) : Type 0 where

@@ -17,7 +17,7 @@ ghost use Rattle.window.specs.Memory.{capacity, position as positionOf};
 ghost use Rattle.model.specs.Table.{sequenceAt};
 ghost use Rattle.model.specs.Steps.{setPoint};
 ghost use Rattle.laws_acknowledge.specs.Increments.{afterRemove, leastCovered, afterRange};
-ghost use Rattle.acknowledge.specs.Contracts.{withSizes, pointStays, searchFrom, ListsLent, LiveRun, Advances, PointFrom, Inserts, MovesPoint, MovesBase, DecidesCurrent};
+ghost use Rattle.acknowledge.specs.Contracts.{withSizes, pointStays, advanceFrom, ListsLent, LiveRun, Advances, PointFrom, Inserts, MovesPoint, MovesBase, DecidesCurrent};
 
 // The sequence at distance `d` from the base: sums are modulo 2^31.
 pub fn sequence_at(base: u32, d: u32) -> u32
@@ -48,7 +48,7 @@ fn live_run(
 }
 
 // The first distance from `from` on whose sequence is not live, page by page; window_size if there is none below it.
-pub fn advance(
+fn advance(
     w: AdaptiveReceiverPacketWindow,
     sequences: &[u32],
     pages: &[u64],
@@ -77,7 +77,7 @@ pub fn advance(
 }
 
 // The point, where the sequences before distance `from` are known to be live.
-pub fn point_from(
+fn point_from(
     w: AdaptiveReceiverPacketWindow,
     sequences: &[u32],
     pages: &[u64],
@@ -92,7 +92,7 @@ pub fn point_from(
 }
 
 // The header with another point.
-pub fn with_point(w: AdaptiveReceiverPacketWindow, point: u32) -> AdaptiveReceiverPacketWindow
+fn with_point(w: AdaptiveReceiverPacketWindow, point: u32) -> AdaptiveReceiverPacketWindow
     ensures { λ r. ⌜ r ≡ setPoint w point ⌝ }
 {
     let mut v = w;
@@ -102,7 +102,7 @@ pub fn with_point(w: AdaptiveReceiverPacketWindow, point: u32) -> AdaptiveReceiv
 
 // `v` with window_size, N and demote_at of `w`. No call changes them; so the lists are looked at no further than they were tested,
 // whatever a state that is not sound made of them.
-pub fn with_sizes(
+fn with_sizes(
     v: AdaptiveReceiverPacketWindow,
     w: AdaptiveReceiverPacketWindow,
 ) -> AdaptiveReceiverPacketWindow
@@ -198,9 +198,9 @@ fn point_stays(size: u32, reach: u32, d: u32) -> bool
     reach < size
 }
 
-// From which distance on it is looked for if it does not: those before the old limit are live.
-fn search_from(size: u32, reach: u32, d: u32) -> u32
-    ensures { λ r. ⌜ r ≡ searchFrom size reach d ⌝ }
+// From which distance on the advance is made if it does not: those before the old limit are live.
+fn advance_from(size: u32, reach: u32, d: u32) -> u32
+    ensures { λ r. ⌜ r ≡ advanceFrom size reach d ⌝ }
 {
     if reach < d {
         return 0;
@@ -229,7 +229,7 @@ fn moved_point(
     if point_stays(size, reach, d) {
         return v.point;
     }
-    let from = search_from(size, reach, d);
+    let from = advance_from(size, reach, d);
     point_from(with_sizes(v, w), sequences, pages, blocks, base, from)
 }
 

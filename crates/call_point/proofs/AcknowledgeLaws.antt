@@ -1,7 +1,7 @@
 -- The point and the base after insert, exchange, remove, take_front and set_base, over plain variables: how each call meets its
 -- contract. Assumes nothing.
 use mathlib.Core.Path.{_≡_, refl, sym, ap, subst, _∙_}
-use mathlib.Core.Bool.{Bool, true, false, cond, true≢false}
+use mathlib.Core.Bool.{Bool, true, false, true≢false}
 use mathlib.Core.Option.{Option, none, some}
 use mathlib.Core.List.{List, [], _∷_}
 use Prim.Native.Nat.{ℕ}
@@ -26,7 +26,6 @@ use Rattle.model.specs.Steps.{setBase, setPoint, headerFrom, withHeader, isNew,
 use Rattle.model.specs.Sound.{SoundWithPoint}
 use Rattle.model.specs.Contract.{State, windowOf, Left}
 use Rattle.model.proofs.KeepLaws.{base-taken}
-use Rattle.page_base.proofs.DecodeLaws.{header-at}
 use Rattle.laws_soundness.proofs.ProperLaws.{proper-decode}
 use Rattle.laws_acknowledge.specs.Increments.{afterInsert, afterRemove, afterSetBase}
 use Rattle.laws_acknowledge.proofs.WindowLaws.{insert-works, exchange-works, remove-works, base-works, front-works}

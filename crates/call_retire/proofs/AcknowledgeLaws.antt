@@ -9,7 +9,7 @@ use Rattle.window.specs.declared.answers.Outcome.{Outcome}
 use Rattle.window.specs.declared.answers.Step.{Step}
 use Rattle.window.specs.Memory.{Memory, capacity, position}
 use Rattle.model.specs.Calls.{Call, remove-range, clear, clear-bounded, release-retired, refused}
-use Rattle.model.specs.Table.{Table, rangeCount, argumentRefusal}
+use Rattle.model.specs.Table.{rangeCount, argumentRefusal}
 use Rattle.model.specs.Steps.{setPoint, knownBy, windowDoes}
 use Rattle.model.specs.Sound.{SoundWithPoint}
 use Rattle.model.specs.Contract.{State, windowOf, Left}

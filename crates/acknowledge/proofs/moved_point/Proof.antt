@@ -11,7 +11,7 @@ use Rattle.model.specs.Window.{decode, liveAt}
 use Rattle.laws_acknowledge.specs.Advance.{advance}
 use Rattle.acknowledge.specs.Contracts.{withSizes}
 use Rattle.acknowledge.proofs.LentLaws.{sized-lent, sized-point}
-use Rattle.acknowledge.proofs.PointLaws.{set-kept, set-from, search-le}
+use Rattle.acknowledge.proofs.PointLaws.{set-kept, set-from, advance-from-le}
 use borrow.Author.Needs.{needs}
 use Rattle.acknowledge.proofs.moved_point.Statement.{statement}
 use Rattle.acknowledge.proofs.moved_point.Tie as tie
@@ -42,21 +42,21 @@ returns c =
           (sym (c .before .point-stays .ensures) ∙ c .if1 .taken);
     }
 
-search-from-requires : tie.Need-search-from-requires
-search-from-requires c κs = search needs
+advance-from-requires : tie.Need-advance-from-requires
+advance-from-requires c κs = search needs
 
 with-sizes-requires : tie.Need-with-sizes-requires
 with-sizes-requires c κs = search needs
 
 point-from-requires : tie.Need-point-from-requires
 point-from-requires c κs =
-    let f : tie.After-search-from = c .before in
+    let f : tie.After-advance-from = c .before in
     let s = start (f .before .before .before) in (
       sized-lent (s .args .v) (s .args .w) _ (now (s .args .sequences)) (now (s .args .pages)) (now (s .args .blocks)) (c .with-sizes .ensures) (s .pre),
       omega (
         arith,
-        f .search-from .ensures,
-        search-le (s .args .w .«window_size») (f .before .before .before .before .distance .result) (f .before .before .before .distance2 .result),
+        f .advance-from .ensures,
+        advance-from-le (s .args .w .«window_size») (f .before .before .before .before .distance .result) (f .before .before .before .distance2 .result),
         ap (λ (h : AdaptiveReceiverPacketWindow). h .«window_size») (c .with-sizes .ensures),
       ),
     )
@@ -64,13 +64,13 @@ point-from-requires c κs =
 returns-2 : tie.Need-returns-2
 returns-2 c =
     let z : tie.After-with-sizes = c .before in
-    let f : tie.After-search-from = z .before in
+    let f : tie.After-advance-from = z .before in
     let p : tie.After-point-stays = f .before .before in
     let d : tie.After-distance2 = p .before in
     let s = start d in
     record {
       is = λ vs ok. sized-point (s .args .v) (s .args .w) _ _ _ _ _ _ _ (z .with-sizes .ensures) (c .point-from .ensures) .is vs ok
-          ∙ ap (λ (n : ℕ). sequenceAt (s .args .base) (advance (s .args .w .«window_size») (live s vs) (s .args .base) n)) (f .search-from .ensures)
+          ∙ ap (λ (n : ℕ). sequenceAt (s .args .base) (advance (s .args .w .«window_size») (live s vs) (s .args .base) n)) (f .advance-from .ensures)
           ∙ set-from (s .args .w .«window_size») (live s vs) (s .args .v .base) (s .args .v .point) (s .args .base) _ _ (d .distance2 .ensures) (d .before .distance .ensures)
           (sym (p .point-stays .ensures) ∙ f .before .if1 .left);
     }
@@ -83,7 +83,7 @@ moved-point-spec =
     distance-requires-2
     point-stays-requires
     returns
-    search-from-requires
+    advance-from-requires
     with-sizes-requires
     point-from-requires
     returns-2)

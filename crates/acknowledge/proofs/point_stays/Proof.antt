@@ -1,7 +1,4 @@
-use mathlib.Core.Path.{_≡_, sym}
-use native.Mathlib.Omega.{arith}
 use borrow.Author.Tests.{le-leb, lt-leb}
-use borrow.Author.Needs.{needs}
 use Rattle.acknowledge.proofs.point_stays.Statement.{statement}
 use Rattle.acknowledge.proofs.point_stays.Tie as tie
 

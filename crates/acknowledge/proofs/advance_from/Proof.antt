@@ -1,9 +1,7 @@
-use mathlib.Core.Path.{_≡_, sym}
-use native.Mathlib.Omega.{arith}
 use borrow.Author.Tests.{le-leb, lt-leb, eq-eqb, ne-eqb}
 use borrow.Author.Needs.{needs}
-use Rattle.acknowledge.proofs.search_from.Statement.{statement}
-use Rattle.acknowledge.proofs.search_from.Tie as tie
+use Rattle.acknowledge.proofs.advance_from.Statement.{statement}
+use Rattle.acknowledge.proofs.advance_from.Tie as tie
 
 returns : tie.Need-returns
 returns c = simp (lt-leb _ _ (c .if1 .taken))
@@ -17,5 +15,5 @@ sub-result c = search needs
 returns-3 : tie.Need-returns-3
 returns-3 c = simp (le-leb _ _ (c .before .if1 .left), eq-eqb _ _ (c .if2 .left))
 
-pub search-from-spec : {M : Type 1} → statement M
-search-from-spec = tie.close (tie.spec returns returns-2 sub-result returns-3)
+pub advance-from-spec : {M : Type 1} → statement M
+advance-from-spec = tie.close (tie.spec returns returns-2 sub-result returns-3)
