@@ -153,9 +153,9 @@ typedef struct packet_window_header {
 
 /* ---- answers */
 
-/* packet_window_answer.code. The numbers first, second and third that a code does not name here carry nothing. */
+/* packet_window_answer.code. The numbers first to fourth that a code does not name here carry nothing. */
 enum packet_window_code {
-    /* Nothing to tell. */
+    /* Nothing to tell; fourth: for packet_window_iter, as below. */
     PACKET_WINDOW_DONE = 0,
     /* Inserted at a free position. */
     PACKET_WINDOW_NEW = 1,
@@ -165,7 +165,7 @@ enum packet_window_code {
     PACKET_WINDOW_ABSENT = 3,
     /* first: a value, a sequence or a number, as the call says. */
     PACKET_WINDOW_FOUND = 4,
-    /* first: a sequence; second: its value; third: for packet_window_iter, the cell to go on from. */
+    /* first: a sequence; second: its value; for packet_window_iter third: the cell to go on from; fourth: how many blocks it entered. */
     PACKET_WINDOW_PAIR = 5,
     /* first: values handed back; second: units used. */
     PACKET_WINDOW_RELEASED = 6,
@@ -199,6 +199,7 @@ typedef struct packet_window_answer {
     uint32_t first;
     uint32_t second;
     uint32_t third;
+    uint32_t fourth;
 } packet_window_answer;
 
 /* What a call gives back: the header to keep, the answer, and how many places of the return list it has written, from the first. */
@@ -326,9 +327,12 @@ packet_window_step packet_window_first_from(
 /*
  * One step over the live pairs, in the order of pages, then of cells: the next from a cell on. Begin with cell 0 and go on with the
  * cell that the answer carries, with no call between that writes.
+ * A step enters the block of its cell and each block after it up to that of the pair, or to the last; on entering a block it reads the
+ * block's retired word, once, and not at each of its 64 pages. fourth is the number of these reads: 1 to 16, and 0 from a cell of the
+ * capacity or more.
  * Writes nothing.
- * Answers: PACKET_WINDOW_PAIR with sequence, value and the cell to go on from; or PACKET_WINDOW_DONE, also from a cell of the capacity
- * or more. Refused: 6.
+ * Answers: PACKET_WINDOW_PAIR with sequence, value, the cell to go on from and the reads; or PACKET_WINDOW_DONE with the reads as fourth,
+ * also from a cell of the capacity or more. Refused: 6.
  */
 packet_window_step packet_window_iter(
     packet_window_header w,
@@ -471,14 +475,15 @@ PACKET_WINDOW_AT(answer, code, 0);
 PACKET_WINDOW_AT(answer, first, 4);
 PACKET_WINDOW_AT(answer, second, 8);
 PACKET_WINDOW_AT(answer, third, 12);
-PACKET_WINDOW_SIZE(answer, 16);
+PACKET_WINDOW_AT(answer, fourth, 16);
+PACKET_WINDOW_SIZE(answer, 20);
 PACKET_WINDOW_AT(step, window, 0);
 PACKET_WINDOW_AT(step, answer, 64);
-PACKET_WINDOW_AT(step, count, 80);
+PACKET_WINDOW_AT(step, count, 84);
 PACKET_WINDOW_SIZE(step, 88);
 PACKET_WINDOW_AT(outcome, answer, 0);
-PACKET_WINDOW_AT(outcome, count, 16);
-PACKET_WINDOW_SIZE(outcome, 20);
+PACKET_WINDOW_AT(outcome, count, 20);
+PACKET_WINDOW_SIZE(outcome, 24);
 
 #undef PACKET_WINDOW_AT
 #undef PACKET_WINDOW_SIZE

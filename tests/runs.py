@@ -45,7 +45,7 @@ LETTERS = {
     'e': 'exchange {} {}', 'd': 'remove-range {} {} true', 'q': 'ask (stranger {} {})', 'b': 'clear-bounded {} true',
     'v': 'release-retired {} true', 'c': 'clear true', 'a': 'set-base {}', 't': 'take-front',
 }
-NUMBERS = {'q': 'pair {} 0 0'}  # what a number says that a letter prints; `found` for the others
+NUMBERS = {'q': 'pair {} 0 0 0'}  # what a number says that a letter prints; `found` for the others
 # The header's fields in the order in which `oracle --words` prints them (oracle/src/state.rs).
 HEADER = 'window_size n demote_at len retired_held release_cursor base point nonempty_summary retired_blocks promotions demotions'.split()
 BLOCK = 3  # words of a block
@@ -178,7 +178,8 @@ printed new = new
 printed (replaced v) = replaced v
 printed absent = absent
 printed (found n) = found n
-printed (pair s v next) = pair s 0 0
+printed (pair s v next reads) = pair s 0 0 0
+printed (ended reads) = ended reads
 printed (released values units) = released values units
 printed (refused k) = refused k
 
@@ -568,7 +569,7 @@ TRUE_WORDS = '64 2 1 1 0 0 5 6 1 0 1 1|1 0 1|0 1 32 1 0.5.50'
 FALSE = [
     ('an answer', '(ask (get 5)) (found 50)', '(ask (get 5)) (found 51)', '51', 'window table positions'),
     ('a refusal', '(refused 4)', '(refused 5)', '5', 'window table positions'),
-    ('whether there is a stranger', '(pair 5 0 0)', 'absent', 'absent', 'window table positions'),
+    ('whether there is a stranger', '(pair 5 0 0 0)', 'absent', 'absent', 'window table positions'),
     ("new's answer", 'asked 64 2 1 done', 'asked 64 2 1 (refused 3)', '(refused 3)', 'window'),
     ('a count', 'new 3 0 1 0', 'new 4 0 1 0', '4', 'window'),
     ('a value returned', '(60 ∷ 70 ∷ [])', '(60 ∷ 71 ∷ [])', '71', 'window positions'),

@@ -152,7 +152,7 @@ impl Window for Library {
         let w = self;
         let mut cell = 0;
         loop {
-            let NumberedAnswer { code, first, second, third } =
+            let NumberedAnswer { code, first, second, third, .. } =
                 call!(w, packet_window_iter, [sequences, values, pages, blocks], cell).answer;
             if code != PAIR {
                 break;

@@ -1,10 +1,14 @@
 //! A window over the static library.
 
+#[path = "reads.rs"]
+mod reads;
+
 use crate::calls::Random;
 use crate::declared::*;
 use crate::line::Call;
 use crate::reference::{Answer, Window};
 use crate::window::WindowHeader;
+use reads::{reads_due, BLOCK_CELLS};
 
 impl From<WindowHeader> for Header {
     fn from(header: WindowHeader) -> Self {
@@ -35,6 +39,7 @@ fn numbered(code: u32, first: u32) -> NumberedAnswer {
         first,
         second: 0,
         third: 0,
+        fourth: 0,
     }
 }
 
@@ -243,7 +248,7 @@ impl Library {
         let step = self.step(self.lengths, Call::ReleaseRetired(budget), host, 0);
         self.header = step.window;
         match step.answer {
-            NumberedAnswer { code: RELEASED, first, second, third: 0 } if first == step.count && second <= budget => {
+            NumberedAnswer { code: RELEASED, first, second, third: 0, fourth: 0 } if first == step.count && second <= budget => {
                 Ok(self.lists.returned[..first as usize].to_vec())
             }
             other => Err(format!("a visit of {budget} answers {other:?}, count {}", step.count)),
@@ -305,24 +310,46 @@ impl Library {
         Ok(())
     }
 
+    /// The pairs that iter gives from cell 0 until done are the source's; from any other cell it goes on with the same pairs.
     fn pairs(&mut self, call: Call, pairs: &[(u32, u32)]) -> Result<(), String> {
         let before = (self.header, self.lists.clone());
-        let (mut cell, mut found) = (0, Vec::new());
-        loop {
-            let step = self.step(self.lengths, call, false, cell);
-            match step.answer {
-                NumberedAnswer { code: PAIR, first, second, third } if third > cell => {
-                    found.push((first, second));
-                    cell = third;
-                }
-                done if done == numbered(DONE, 0) => break,
-                other => return Err(format!("iter from {cell}: {other:?}")),
-            }
+        let (mut cell, mut cells) = (0, Vec::new());
+        while let Some((found, pair)) = self.next_pair(call, cell)? {
+            cells.push((found, pair));
+            cell = found + 1;
         }
-        if found != pairs || before != (self.header, self.lists.clone()) {
+        let found: Vec<_> = cells.iter().map(|&(_, pair)| pair).collect();
+        if found != pairs {
             return Err(format!("iter gives {found:?}, the source {pairs:?}"));
         }
+        let capacity = self.lengths.cells[0] as u32;
+        let edges = (BLOCK_CELLS..capacity).step_by(BLOCK_CELLS as usize).flat_map(|start| [start - 1, start]);
+        for cell in edges.chain([capacity - 1, capacity, capacity + 1, u32::MAX]) {
+            let due = cells.iter().copied().find(|&(found, _)| found >= cell);
+            let given = self.next_pair(call, cell)?;
+            if given != due {
+                return Err(format!("iter from {cell} gives {given:?}, from 0 on it gave {due:?}"));
+            }
+        }
+        if before != (self.header, self.lists.clone()) {
+            return Err("iter altered the window".to_string());
+        }
         Ok(())
+    }
+
+    /// A step of iter: the cell that it found and the pair there, if it found one; its reads are those of document 02.
+    fn next_pair(&mut self, call: Call, cell: u32) -> Result<Option<(u32, (u32, u32))>, String> {
+        let answer = self.step(self.lengths, call, false, cell).answer;
+        let given = match answer {
+            NumberedAnswer { code: PAIR, first, second, third, .. } if third > cell => Some((third - 1, (first, second))),
+            NumberedAnswer { code: DONE, first: 0, second: 0, third: 0, .. } => None,
+            other => return Err(format!("iter from {cell}: {other:?}")),
+        };
+        let due = reads_due(self.lengths.cells[0] as u32, cell, given.map(|(found, _)| found));
+        if answer.fourth != due {
+            return Err(format!("iter from {cell}: {answer:?}, {due} reads are due"));
+        }
+        Ok(given)
     }
 
     /// What is not as the source has it: header, block words, and of the pages in `pages` words and cells in use.

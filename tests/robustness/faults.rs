@@ -1,6 +1,6 @@
 //! Calls that do what no call may: the harness must name each of them.
 
-use crate::declared::{Header, NumberedAnswer, NumberedStep, ABSENT, DONE, REFUSED};
+use crate::declared::{Header, NumberedAnswer, NumberedStep, ABSENT, DONE, PAIR, REFUSED};
 use crate::memory::{Lent, BLOCKS, HEADER, PAGES, RETURNED, SEQUENCES, VALUES};
 use crate::operations::{Call, OCCUPIED, SHORT_MEMORY, UNSOUND};
 use crate::judge::refused;
@@ -18,7 +18,7 @@ const OUTSIDE: &str = "access outside of the lent memory";
 const WRITTEN: &str = "outside";
 
 fn refusal(number: u32) -> NumberedAnswer {
-    NumberedAnswer { code: REFUSED, first: number, second: 0, third: 0 }
+    NumberedAnswer { code: REFUSED, first: number, second: 0, third: 0, fourth: 0 }
 }
 
 /// Element `at` of a list of numbers, or of words.
@@ -116,6 +116,21 @@ pub static FAULTS: &[Fault] = &[
             step.answer.first = 1;
         }
     }),
+    fault!("reads-of-another-call", "0 reads are due", |call, lent, step| {
+        if taken(call, "get") {
+            step.answer.fourth = 1;
+        }
+    }),
+    fault!("one-read-too-few-when-done", "reads are due", |call, lent, step| {
+        if taken(call, "iter") && step.answer.code == DONE {
+            step.answer.fourth = step.answer.fourth.saturating_sub(1);
+        }
+    }),
+    fault!("a-read-at-every-page", "reads are due", |call, lent, step| {
+        if taken(call, "iter") && step.answer.code == PAIR {
+            step.answer.fourth = (step.answer.third - 1) / 64 - call.numbers[0] / 64 + 1;
+        }
+    }),
     fault!("refusal-0", "answers NumberedAnswer { code: 7, first: 0", |call, lent, step| step.answer = refusal(0)),
     fault!("refusal-10", "answers NumberedAnswer { code: 7, first: 10", |call, lent, step| step.answer = refusal(10)),
     fault!("refuses-6-what-it-takes", "refuses Some(6)", |call, lent, step| {
@@ -135,7 +150,7 @@ pub static FAULTS: &[Fault] = &[
     }),
     fault!("takes-what-it-refuses", "not refusal Some(", |call, lent, step| {
         if call.operation.name == "clear_bounded" && call.refusal().is_some() {
-            step.answer = NumberedAnswer { code: 4, first: 0, second: 0, third: 0 };
+            step.answer = NumberedAnswer { code: 4, first: 0, second: 0, third: 0, fourth: 0 };
         }
     }),
     fault!("refuses-in-another-order", "not refusal Some(", |call, lent, step| {

@@ -22,6 +22,8 @@ mod judge;
 mod line;
 mod memory;
 mod operations;
+#[path = "../library/reads.rs"]
+mod reads;
 mod signals;
 #[allow(dead_code)] // the test of check uses the rest
 #[path = "../library/soundness.rs"]

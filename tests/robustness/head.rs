@@ -7,6 +7,7 @@ use crate::guarded::Mappings;
 use crate::ledger::Ledger;
 use crate::memory::{capacity, Memory, RETURNED};
 use crate::operations::*;
+use crate::reads::reads_due;
 use crate::signals::watched;
 
 /// A wrong end of a call, to show that it is noticed.
@@ -134,7 +135,7 @@ impl Head {
 
     fn step(&mut self, call: &Call) -> NumberedStep {
         if self.fault == Some(Fault::Idle) && call.operation.call() == "release_retired" {
-            let answer = NumberedAnswer { code: RELEASED, first: 0, second: 0, third: 0 };
+            let answer = NumberedAnswer { code: RELEASED, first: 0, second: 0, third: 0, fourth: 0 };
             return NumberedStep { window: call.header, answer, count: 0 };
         }
         if call.operation.by_start() {
@@ -354,7 +355,9 @@ impl Head {
         let (mut cell, mut found) = (0, 0);
         loop {
             let answer = self.make("iter", [cell, 0, 0])?;
-            let NumberedAnswer { code, first, second, third } = answer;
+            let NumberedAnswer { code, first, second, third, fourth } = answer;
+            let due = reads_due(self.table.len() as u32, cell, (code == PAIR).then(|| third.wrapping_sub(1)));
+            demand(fourth == due, || format!("iter {cell} answers {answer:?}, {due} reads are due"))?;
             if code == DONE {
                 break;
             }

@@ -1,10 +1,11 @@
 //! What a call must keep to, on any memory.
 
 use crate::declared::*;
-use crate::memory::{Memory, BLOCKS, NAMES, PAGES, RETURNED};
+use crate::memory::{capacity, Memory, BLOCKS, NAMES, PAGES, RETURNED};
 use crate::operations::*;
+use crate::reads::reads_due;
 
-/// How many numbers an answer has, by its code.
+/// How many numbers an answer has, by its code; iter's reads, the fourth, are not counted.
 const USED: [usize; 8] = [0, 0, 1, 0, 1, 3, 2, 1];
 
 /// A call that was made, what it gave, and the memory after it.
@@ -35,11 +36,23 @@ impl Made<'_> {
 
     /// The code is one that the call has, or a refusal from 1 to 9; numbers that the code does not use are 0.
     fn readable(&self) -> Result<(), String> {
-        let answer @ NumberedAnswer { code, first, second, third } = self.answer();
+        let answer @ NumberedAnswer { code, first, second, third, fourth } = self.answer();
         let own = self.call.operation.codes.contains(&code);
         demand(own || (code == REFUSED && (1..=9).contains(&first)), || format!("answers {answer:?}"))?;
         let unused = &[first, second, third][USED[code as usize]..];
-        demand(unused.iter().all(|&number| number == 0), || format!("answers {answer:?}, with numbers that are not used"))
+        demand(unused.iter().all(|&number| number == 0), || format!("answers {answer:?}, with numbers that are not used"))?;
+        let due = self.reads();
+        demand(fourth == due, || format!("answers {answer:?}, {due} reads are due"))
+    }
+
+    /// What an answer of iter must have as its fourth number, on any memory: the reads for the cell that it found. Any other has 0.
+    fn reads(&self) -> u32 {
+        let NumberedAnswer { code, third, .. } = self.answer();
+        if self.call.operation.name != "iter" || code == REFUSED {
+            return 0;
+        }
+        let found = (code == PAIR).then(|| third.wrapping_sub(1));
+        reads_due(capacity(self.call.header.window_size) as u32, self.call.numbers[0], found)
     }
 
     /// The refusal that the arguments decide, and no other of theirs.

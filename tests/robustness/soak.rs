@@ -21,6 +21,8 @@ mod line;
 mod memory;
 #[allow(dead_code)]
 mod operations;
+#[path = "../library/reads.rs"]
+mod reads;
 mod replay;
 mod show;
 mod signals;

@@ -87,6 +87,26 @@ pub struct Released {
     pub units: u32,
 }
 
+/// A live pair that `step` found.
+#[derive(Debug, Clone, Copy, PartialEq, Eq)]
+pub struct NextPair {
+    /// Its sequence.
+    pub sequence: u32,
+    /// Its value.
+    pub value: u32,
+    /// The cell to go on from.
+    pub cell: u32,
+}
+
+/// What `step` found.
+#[derive(Debug, Clone, Copy, PartialEq, Eq)]
+pub struct Step {
+    /// The next live pair; none if none is left.
+    pub next: Option<NextPair>,
+    /// The retired words that it read: one for each block from that of the cell given to that of the pair, or to the last.
+    pub reads: u32,
+}
+
 /// The answer of a call that may hand back several values, with those values. They are there whatever the answer is.
 #[derive(Debug, PartialEq, Eq)]
 #[must_use = "the returned values are handed back to the caller"]
@@ -144,13 +164,17 @@ pub(crate) fn released(answer: NumberedAnswer) -> Result<Released, Refusal> {
     }
 }
 
-/// A sequence, its value and the cell after it, if there is a next pair.
-pub(crate) fn next_pair(answer: NumberedAnswer) -> Option<Result<(u32, u32, u32), Refusal>> {
-    match answer.code {
+pub(crate) fn stepped(answer: NumberedAnswer) -> Result<Step, Refusal> {
+    let next = match answer.code {
         raw::DONE => None,
-        raw::PAIR => Some(Ok((answer.first, answer.second, answer.third))),
-        _ => Some(Err(refusal(answer))),
-    }
+        raw::PAIR => Some(NextPair {
+            sequence: answer.first,
+            value: answer.second,
+            cell: answer.third,
+        }),
+        _ => return Err(refusal(answer)),
+    };
+    Ok(Step { next, reads: answer.fourth })
 }
 
 /// A sequence and its value, if there is such a pair.

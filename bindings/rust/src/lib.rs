@@ -64,7 +64,7 @@ mod memory;
 mod raw;
 mod window;
 
-pub use answers::{Inserted, Outcome, Refusal, Released};
+pub use answers::{Inserted, NextPair, Outcome, Refusal, Released, Step};
 #[cfg(feature = "alloc")]
 pub use memory::OwnedMemory;
 pub use memory::{block_words, capacity, page_words, Memory, MAX_RETIRED_RELEASED_PER_VISIT, PAGE_SLOTS, RETURN_PLACES, VERSION};

@@ -30,7 +30,7 @@ pub struct Header {
     pub demotions: u64,
 }
 
-/// A code, then up to three numbers.
+/// A code, then up to four numbers.
 #[repr(C)]
 #[derive(Debug, Clone, Copy, PartialEq, Eq)]
 pub struct NumberedAnswer {
@@ -38,6 +38,7 @@ pub struct NumberedAnswer {
     pub first: u32,
     pub second: u32,
     pub third: u32,
+    pub fourth: u32,
 }
 
 /// The header to keep, the answer, and how many places of the return list are written.

@@ -1,6 +1,6 @@
 //! The window: its header, the memory that it is lent, and the calls.
 
-use crate::answers::{self, Inserted, Outcome, Refusal, Released};
+use crate::answers::{self, Inserted, Outcome, Refusal, Released, Step};
 use crate::memory::{capacity, Memory, RETURN_PLACES, VERSION};
 use crate::raw::{self, Header, NumberedAnswer, NumberedStep};
 use core::iter::FusedIterator;
@@ -193,7 +193,14 @@ impl<'m> Window<'m> {
         self.outcome(step, answers::number)
     }
 
-    /// The live pairs, sequence and value, in the order of pages, then of cells.
+    /// One step over the live pairs, in the order of pages, then of cells: the next from a cell on. Begin with cell 0 and go on with the
+    /// cell that comes with the pair. On entering a block the step reads the block's retired word, once; the answer has the number of
+    /// these reads: 1 to 16, and 0 from a cell of the capacity or more.
+    pub fn step(&self, cell: u32) -> Result<Step, Refusal> {
+        answers::stepped(reading!(self, packet_window_iter(cell)))
+    }
+
+    /// The live pairs, sequence and value, in the order of pages, then of cells: `step` from cell 0 until none is left.
     pub fn iter(&self) -> Iter<'_, 'm> {
         Iter { window: self, cell: Some(0) }
     }
@@ -294,12 +301,15 @@ impl Iterator for Iter<'_, '_> {
 
     fn next(&mut self) -> Option<Self::Item> {
         let cell = self.cell.take()?;
-        match answers::next_pair(reading!(self.window, packet_window_iter(cell)))? {
-            // A cell that does not rise can come of an unsound state only.
-            Ok((_, _, next)) if next <= cell => Some(Err(Refusal::Unsound)),
-            Ok((sequence, value, next)) => {
-                self.cell = Some(next);
-                Some(Ok((sequence, value)))
+        match self.window.step(cell) {
+            Ok(step) => {
+                let pair = step.next?;
+                // A cell that does not rise can come of an unsound state only.
+                if pair.cell <= cell {
+                    return Some(Err(Refusal::Unsound));
+                }
+                self.cell = Some(pair.cell);
+                Some(Ok((pair.sequence, pair.value)))
             }
             Err(refusal) => Some(Err(refusal)),
         }

@@ -228,6 +228,26 @@ fn iterator_goes_by_page_then_cell_and_ends() {
     assert_eq!(iter.next(), None);
 }
 
+/// Document 02, S-2: a retired word for each block from the given cell's to the found pair's, or to the last.
+#[test]
+fn a_step_reads_one_word_for_each_block() {
+    let mut memory = OwnedMemory::new(65536);
+    let mut w = window(&mut memory, 65536);
+    let reads = |w: &Window<'_>, cell: u32| w.step(cell).map(|step| (step.next.map(|pair| pair.cell), step.reads));
+    for (cell, due) in [(0, 16), (4095, 16), (4096, 15), (65535, 1), (65536, 0), (u32::MAX, 0)] {
+        assert_eq!(reads(&w, cell), Ok((None, due)));
+    }
+    enter(&mut w, 5 * 4096 + 3, 7);
+    let pair = NextPair { sequence: 5 * 4096 + 3, value: 7, cell: 5 * 4096 + 1 };
+    assert_eq!(w.step(0), Ok(Step { next: Some(pair), reads: 6 }));
+    assert_eq!(reads(&w, 5 * 4096), Ok((Some(pair.cell), 1)));
+    assert_eq!(reads(&w, pair.cell), Ok((None, 11)));
+    // Nothing is released: both values are under block marks.
+    enter(&mut w, 3, 8);
+    assert_eq!(w.clear_bounded(0).answer, Ok(0));
+    assert_eq!((reads(&w, 0), reads(&w, 5 * 4096)), (Ok((None, 16)), Ok((None, 11))));
+}
+
 #[test]
 fn strangers() {
     let mut memory = OwnedMemory::new(64);

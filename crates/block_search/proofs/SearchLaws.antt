@@ -60,18 +60,28 @@ named v ok g l e =
     let some : eqb word 0 ≡ false = ne-eqb word 0 (λ z. omega (arith, held, ap (λ (w : ℕ). bitAt w (g % 64)) z, bit-none (g % 64))) in
     eq-eqb _ 1 (ok .summary (g / 64) (omega arith) ∙ ap (λ (t : Bool). one (not t)) some)
 
--- the words of a sound window select the pages that hold a value and are looked for
+-- the words of a block of a sound window select the pages that hold a value and are looked for
+pub pages-is : (v : Window) → Sound v → (blocks : List ℕ) (select : Select) (g : ℕ) → g < pagesOf v
+    → v .blocks (g / 64) ≡ blockOf (blockWordsAt blocks (g / 64))
+    → isSet (selectedPages blocks (v .header .«retired_blocks») (g / 64) select) (g % 64) ≡ (holdsValue (v .pages g) && chosen select (isRetired v g))
+unfolding selectedPages
+pages-is v ok blocks select g l f =
+    let x = blockWordsAt blocks (g / 64) in
+    let marks = isSet (v .header .«retired_blocks») (g / 64) in
+    let holds : isSet (v .blocks (g / 64) .nonempty) (g % 64) ≡ holdsValue (v .pages g) = ap (λ (d : ℕ). eqb d 1) (ok .nonempty g l) ∙ one-test _ in
+    word-set (λ (i : ℕ). isSet (x .nonempty) i && chosen select (marks || isSet (x .retired) i)) (g % 64) (omega arith)
+    ∙ (λ i. isSet (sym f i .nonempty) (g % 64) && chosen select (marks || isSet (sym f i .retired) (g % 64)))
+    ∙ ap (λ (t : Bool). t && chosen select (isRetired v g)) holds
+
+-- and so with the summary, which names their blocks
 pub selected-is : (v : Window) → Sound v → (blocks : List ℕ) (select : Select) (g : ℕ) → g < pagesOf v
     → v .blocks (g / 64) ≡ blockOf (blockWordsAt blocks (g / 64))
     → isSelected blocks (v .header .«nonempty_summary») (v .header .«retired_blocks») select g
     ≡ (holdsValue (v .pages g) && chosen select (isRetired v g))
-unfolding isSelected
 selected-is v ok blocks select g l f =
     let summary = isSet (v .header .«nonempty_summary») (g / 64) in
-    let holds : isSet (v .blocks (g / 64) .nonempty) (g % 64) ≡ holdsValue (v .pages g) = ap (λ (d : ℕ). eqb d 1) (ok .nonempty g l) ∙ one-test _ in
-    let rest = chosen select (isRetired v g) in
-    (λ i. summary && (isSet (sym f i .nonempty) (g % 64) && chosen select (isSet (v .header .«retired_blocks») (g / 64) || isSet (sym f i .retired) (g % 64))))
-    ∙ ap (λ (t : Bool). summary && (t && rest)) holds
+    selected-in blocks (v .header .«nonempty_summary») (v .header .«retired_blocks») select g
+    ∙ ap (λ (t : Bool). summary && t) (pages-is v ok blocks select g l f)
     ∙ bool (holdsValue (v .pages g)) (λ e. rw (named v ok g l e)) (λ e. rw e (and-false summary))
 
 -- the same of a window read from the lent lists
@@ -80,6 +90,12 @@ pub selected-decode : (h : AdaptiveReceiverPacketWindow) (m : Memory) → Sound 
     ≡ (holdsValue (decode h m .pages g) && chosen select (isRetired (decode h m) g))
 unfolding decode
 selected-decode h m ok select g l = selected-is (decode h m) ok (m .blocks) select g l (block-at h m (g / 64) (omega arith))
+
+pub pages-decode : (h : AdaptiveReceiverPacketWindow) (m : Memory) → Sound (decode h m) → (select : Select) (g : ℕ) → g < pageCount (h .«window_size»)
+    → isSet (selectedPages (m .blocks) (h .«retired_blocks») (g / 64) select) (g % 64)
+    ≡ (holdsValue (decode h m .pages g) && chosen select (isRetired (decode h m) g))
+unfolding decode
+pages-decode h m ok select g l = pages-is (decode h m) ok (m .blocks) select g l (block-at h m (g / 64) (omega arith))
 
 -- in the order of the model's own tests
 module _ (h : AdaptiveReceiverPacketWindow) (m : Memory) (ok : Sound (decode h m)) (g : ℕ) (below : g < pageCount (h .«window_size»)) where
@@ -90,16 +106,33 @@ module _ (h : AdaptiveReceiverPacketWindow) (m : Memory) (ok : Sound (decode h m
       ≡ (isRetired (decode h m) g && holdsValue (decode h m .pages g))
   selected-retired = selected-decode h m ok Retired g below ∙ and-comm (holdsValue (decode h m .pages g)) (isRetired (decode h m) g)
 
-  -- of live pages: one that is selected, and one that is not and is not retired
+  -- of live pages, by a test that tells them: one that is selected, and one that is not and is not retired
+  module _ (test : Bool) (tells : test ≡ (holdsValue (decode h m .pages g) && not (isRetired (decode h m) g))) where
+    pub live-page : test ≡ true → (holdsValue (decode h m .pages g) ≡ true) × (isRetired (decode h m) g ≡ false)
+    live-page s =
+        let t = both (holdsValue (decode h m .pages g)) (not (isRetired (decode h m) g)) (sym tells ∙ s) in
+        (t .0, not-true (isRetired (decode h m) g) (t .1))
+
+    pub empty-page : test ≡ false → isRetired (decode h m) g ≡ false → decode h m .pages g .occupied ≡ 0
+    empty-page e r =
+        bool (holdsValue (decode h m .pages g))
+        (λ a. absurd (true≢false (sym (rw (a, r) refl) ∙ sym tells ∙ e)))
+        (λ a. eqb-true (decode h m .pages g .occupied) 0 (not-false (eqb (decode h m .pages g .occupied) 0) a))
+
+  -- with the summary
   pub live-selected : isSelected (m .blocks) (h .«nonempty_summary») (h .«retired_blocks») Live g ≡ true
       → (holdsValue (decode h m .pages g) ≡ true) × (isRetired (decode h m) g ≡ false)
-  live-selected s =
-      let t = both (holdsValue (decode h m .pages g)) (not (isRetired (decode h m) g)) (sym (selected-decode h m ok Live g below) ∙ s) in
-      (t .0, not-true (isRetired (decode h m) g) (t .1))
+  live-selected = live-page _ (selected-decode h m ok Live g below)
 
   pub unselected-empty : isSelected (m .blocks) (h .«nonempty_summary») (h .«retired_blocks») Live g ≡ false → isRetired (decode h m) g ≡ false
       → decode h m .pages g .occupied ≡ 0
-  unselected-empty e r =
-      bool (holdsValue (decode h m .pages g))
-      (λ a. absurd (true≢false (sym (rw (a, r) refl) ∙ sym (selected-decode h m ok Live g below) ∙ e)))
-      (λ a. eqb-true (decode h m .pages g .occupied) 0 (not-false (eqb (decode h m .pages g .occupied) 0) a))
+  unselected-empty = empty-page _ (selected-decode h m ok Live g below)
+
+  -- by the words of its block alone
+  pub live-in-block : isSet (selectedPages (m .blocks) (h .«retired_blocks») (g / 64) Live) (g % 64) ≡ true
+      → (holdsValue (decode h m .pages g) ≡ true) × (isRetired (decode h m) g ≡ false)
+  live-in-block = live-page _ (pages-decode h m ok Live g below)
+
+  pub empty-in-block : isSet (selectedPages (m .blocks) (h .«retired_blocks») (g / 64) Live) (g % 64) ≡ false → isRetired (decode h m) g ≡ false
+      → decode h m .pages g .occupied ≡ 0
+  empty-in-block = empty-page _ (pages-decode h m ok Live g below)

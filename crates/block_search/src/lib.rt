@@ -35,7 +35,7 @@ pub fn bits_within(start: usize, end: usize, word: usize) -> u64
 }
 
 // The pages of a block that hold a value and are selected.
-fn selected_pages(blocks: &[u64], retired_blocks: u64, block: usize, select: Select) -> u64
+pub fn selected_pages(blocks: &[u64], retired_blocks: u64, block: usize, select: Select) -> u64
     requires { ⌜ (block < 16) × rowIn blockWords block (now blocks) ⌝ }
     ensures { λ r. ⌜ r ≡ selectedPages (now (blocks .entry)) «retired_blocks» block select ⌝ }
 {

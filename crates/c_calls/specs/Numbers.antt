@@ -12,25 +12,26 @@ use Rattle.window.specs.Memory.{Memory}
 use Rattle.window.specs.Lent.{Lent, foundIn, leftIn}
 use Rattle.window.specs.New.{NewAnswer, made, fresh, newResult, newOf}
 use Rattle.window.specs.New as window
-use Rattle.model.specs.Calls.{Call, Answer, done, new, replaced, absent, found, pair, released, refused}
+use Rattle.model.specs.Calls.{Call, Answer, done, new, replaced, absent, found, pair, ended, released, refused}
 use Rattle.model.specs.Contract.{State, Meets}
 use Rattle.call_base.specs.Answers.{answerOf, stateOf}
 use Rattle.c_calls.specs.declared.NumberedAnswer.{NumberedAnswer}
 use Rattle.c_calls.specs.declared.NumberedStep.{NumberedStep}
 
-abbrev pub numbered : (code first second third : ℕ) → NumberedAnswer
-numbered code first second third = record { code = code; first = first; second = second; third = third }
+abbrev pub numbered : (code first second third fourth : ℕ) → NumberedAnswer
+numbered code first second third fourth = record { code = code; first = first; second = second; third = third; fourth = fourth }
 
 -- the numbers of document 01's answers: a code, then what the answer carries, and 0 for what it does not
 abbrev pub numbersOf : Answer → NumberedAnswer
-numbersOf done = numbered 0 0 0 0
-numbersOf new = numbered 1 0 0 0
-numbersOf (replaced v) = numbered 2 v 0 0
-numbersOf absent = numbered 3 0 0 0
-numbersOf (found n) = numbered 4 n 0 0
-numbersOf (pair s v next) = numbered 5 s v next
-numbersOf (released values units) = numbered 6 values units 0
-numbersOf (refused k) = numbered 7 k 0 0
+numbersOf done = numbered 0 0 0 0 0
+numbersOf new = numbered 1 0 0 0 0
+numbersOf (replaced v) = numbered 2 v 0 0 0
+numbersOf absent = numbered 3 0 0 0 0
+numbersOf (found n) = numbered 4 n 0 0 0
+numbersOf (pair s v next reads) = numbered 5 s v next reads
+numbersOf (ended reads) = numbered 0 0 0 0 reads
+numbersOf (released values units) = numbered 6 values units 0 0
+numbersOf (refused k) = numbered 7 k 0 0 0
 
 -- a step, and the same in numbers
 abbrev pub SameStep : Step → NumberedStep → Type 0
@@ -55,8 +56,8 @@ NumbersMeetInto c w ss vs pages blocks l r =
 
 -- what new answered, in numbers: a refusal comes with a header of zeros
 abbrev pub numbersOfNew : NewAnswer → NumberedStep
-numbersOfNew (made h) = record { window = h; answer = numbered 0 0 0 0; count = 0 }
-numbersOfNew (window.refused k) = record { window = fresh 0 0 0; answer = numbered 7 k 0 0; count = 0 }
+numbersOfNew (made h) = record { window = h; answer = numbered 0 0 0 0 0; count = 0 }
+numbersOfNew (window.refused k) = record { window = fresh 0 0 0; answer = numbered 7 k 0 0 0; count = 0 }
 
 -- what packet_window_new gives: the numbers of the answer that the definition of new gives, with the memory that it leaves
 pub record Creates (r : NumberedStep) (m : Memory) (size n demoteAt : ℕ) (m′ : Memory) : Type 0 where

@@ -29,6 +29,7 @@ pub struct NumberedAnswer {
     pub first: u32,
     pub second: u32,
     pub third: u32,
+    pub fourth: u32,
 }
 
 // The header after a call, its answer, and how many values it put into its return list.
@@ -39,14 +40,15 @@ pub struct NumberedStep {
     pub count: u32,
 }
 
-fn numbered(code: u32, first: u32, second: u32, third: u32) -> NumberedAnswer
-    ensures { λ r. ⌜ r ≡ numberedOf code first second third ⌝ }
+fn numbered(code: u32, first: u32, second: u32, third: u32, fourth: u32) -> NumberedAnswer
+    ensures { λ r. ⌜ r ≡ numberedOf code first second third fourth ⌝ }
 {
     NumberedAnswer {
         code,
         first,
         second,
         third,
+        fourth,
     }
 }
 
@@ -55,14 +57,15 @@ pub fn numbers(answer: Answer) -> NumberedAnswer
     ensures { λ r. ⌜ r ≡ numbersOf (answerOf answer) ⌝ }
 {
     match answer {
-        Answer::Done => numbered(0, 0, 0, 0),
-        Answer::New => numbered(1, 0, 0, 0),
-        Answer::Replaced(value) => numbered(2, value, 0, 0),
-        Answer::Absent => numbered(3, 0, 0, 0),
-        Answer::Found(number) => numbered(4, number, 0, 0),
-        Answer::Pair(sequence, value, next) => numbered(5, sequence, value, next),
-        Answer::Released(values, units) => numbered(6, values, units, 0),
-        Answer::Refused(why) => numbered(7, refusal_number(why), 0, 0),
+        Answer::Done => numbered(0, 0, 0, 0, 0),
+        Answer::New => numbered(1, 0, 0, 0, 0),
+        Answer::Replaced(value) => numbered(2, value, 0, 0, 0),
+        Answer::Absent => numbered(3, 0, 0, 0, 0),
+        Answer::Found(number) => numbered(4, number, 0, 0, 0),
+        Answer::Pair(sequence, value, next, reads) => numbered(5, sequence, value, next, reads),
+        Answer::Ended(reads) => numbered(0, 0, 0, 0, reads),
+        Answer::Released(values, units) => numbered(6, values, units, 0, 0),
+        Answer::Refused(why) => numbered(7, refusal_number(why), 0, 0, 0),
     }
 }
 
@@ -104,8 +107,11 @@ fn created(made: Created) -> NumberedStep
     ensures { λ r. ⌜ r ≡ numbersOfNew (newAnswerOf made) ⌝ }
 {
     match made {
-        Created::New(window) => numbered_step(window, numbered(0, 0, 0, 0)),
-        Created::Refused(why) => numbered_step(no_window(), numbered(7, refusal_number(why), 0, 0)),
+        Created::New(window) => numbered_step(window, numbered(0, 0, 0, 0, 0)),
+        Created::Refused(why) => numbered_step(
+            no_window(),
+            numbered(7, refusal_number(why), 0, 0, 0),
+        ),
     }
 }
 

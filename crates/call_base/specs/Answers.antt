@@ -9,7 +9,7 @@ use lib.ListN.{length}
 use Rattle.window.specs.declared.AdaptiveReceiverPacketWindow.{AdaptiveReceiverPacketWindow}
 use Rattle.window.specs.declared.refusals.Refusal.{Refusal}
 use Rattle.window.specs.declared.answers.Answer.{Answer}
-use Rattle.window.specs.declared.answers.Answer.the-variants.{Done, New, Replaced, Absent, Found, Pair, Released, Refused}
+use Rattle.window.specs.declared.answers.Answer.the-variants.{Done, New, Replaced, Absent, Found, Pair, Ended, Released, Refused}
 use Rattle.window.specs.declared.answers.Step.{Step}
 use Rattle.window.specs.Memory.{Memory}
 use Rattle.window.specs.Lent.{Lent, foundIn, leftIn}
@@ -24,7 +24,8 @@ answerOf New = model.new
 answerOf (Replaced v) = model.replaced v
 answerOf Absent = model.absent
 answerOf (Found n) = model.found n
-answerOf (Pair s v next) = model.pair s v next
+answerOf (Pair s v next reads) = model.pair s v next reads
+answerOf (Ended reads) = model.ended reads
 answerOf (Released values units) = model.released values units
 answerOf (Refused why) = model.refused (refusalNumber why)
 
@@ -35,7 +36,8 @@ numberOf model.new = 0
 numberOf (model.replaced v) = 0
 numberOf model.absent = 0
 numberOf (model.found n) = 0
-numberOf (model.pair s v next) = 0
+numberOf (model.pair s v next reads) = 0
+numberOf (model.ended reads) = 0
 numberOf (model.released values units) = 0
 numberOf (model.refused k) = k
 

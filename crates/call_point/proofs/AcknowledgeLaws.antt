@@ -13,7 +13,7 @@ use lib.ListN.{length}
 use Rattle.words.proofs.CaseLaws.{bool}
 use Rattle.window.specs.declared.AdaptiveReceiverPacketWindow.{AdaptiveReceiverPacketWindow}
 use Rattle.window.specs.declared.answers.Answer.{Answer}
-use Rattle.window.specs.declared.answers.Answer.the-variants.{Done, New, Replaced, Absent, Found, Pair, Released, Refused}
+use Rattle.window.specs.declared.answers.Answer.the-variants.{Done, New, Replaced, Absent, Found, Pair, Ended, Released, Refused}
 use Rattle.window.specs.declared.answers.Outcome.{Outcome}
 use Rattle.window.specs.declared.answers.Step.{Step}
 use Rattle.window.specs.Memory.{Memory}
@@ -52,24 +52,26 @@ module _ (w : AdaptiveReceiverPacketWindow) (ss pages blocks : List ℕ) (s : �
   old-kept e = record { outcome = refl; new = λ t. absurd (true≢false (sym t ∙ e)); old = λ t. refl }
 
 -- past the pattern `New` no value is new
-pub not-new : (a : Answer) → OneOf (0 ∷ 2 ∷ 3 ∷ 4 ∷ 5 ∷ 6 ∷ 7 ∷ []) (tagOf enum.the-type a) → isNew (answerOf a) ≡ false
+pub not-new : (a : Answer) → OneOf (0 ∷ 2 ∷ 3 ∷ 4 ∷ 5 ∷ 6 ∷ 7 ∷ 8 ∷ []) (tagOf enum.the-type a) → isNew (answerOf a) ≡ false
 not-new Done t = refl
-not-new New t = absurd (miss (0 ∷ 2 ∷ 3 ∷ 4 ∷ 5 ∷ 6 ∷ 7 ∷ []) 1 tt t)
+not-new New t = absurd (miss (0 ∷ 2 ∷ 3 ∷ 4 ∷ 5 ∷ 6 ∷ 7 ∷ 8 ∷ []) 1 tt t)
 not-new (Replaced v) t = refl
 not-new Absent t = refl
 not-new (Found n) t = refl
-not-new (Pair s v next) t = refl
+not-new (Pair s v next reads) t = refl
+not-new (Ended reads) t = refl
 not-new (Released values units) t = refl
 not-new (Refused why) t = refl
 
 -- and past `Found` none was found
-pub not-found : (a : Answer) → OneOf (0 ∷ 1 ∷ 2 ∷ 3 ∷ 5 ∷ 6 ∷ 7 ∷ []) (tagOf enum.the-type a) → isFound (answerOf a) ≡ false
+pub not-found : (a : Answer) → OneOf (0 ∷ 1 ∷ 2 ∷ 3 ∷ 5 ∷ 6 ∷ 7 ∷ 8 ∷ []) (tagOf enum.the-type a) → isFound (answerOf a) ≡ false
 not-found Done t = refl
 not-found New t = refl
 not-found (Replaced v) t = refl
 not-found Absent t = refl
-not-found (Found n) t = absurd (miss (0 ∷ 1 ∷ 2 ∷ 3 ∷ 5 ∷ 6 ∷ 7 ∷ []) 4 tt t)
-not-found (Pair s v next) t = refl
+not-found (Found n) t = absurd (miss (0 ∷ 1 ∷ 2 ∷ 3 ∷ 5 ∷ 6 ∷ 7 ∷ 8 ∷ []) 4 tt t)
+not-found (Pair s v next reads) t = refl
+not-found (Ended reads) t = refl
 not-found (Released values units) t = refl
 not-found (Refused why) t = refl
 

@@ -33,7 +33,8 @@ isRefusal model.new = false
 isRefusal (model.replaced v) = false
 isRefusal model.absent = false
 isRefusal (model.found n) = false
-isRefusal (model.pair s v next) = false
+isRefusal (model.pair s v next reads) = false
+isRefusal (model.ended reads) = false
 isRefusal (model.released values units) = false
 isRefusal (model.refused k) = true
 

@@ -12,7 +12,7 @@ use Rattle.words.specs.Word.{bitAt}
 use Rattle.words.proofs.BitLaws.{bit-none}
 use Rattle.window.specs.declared.AdaptiveReceiverPacketWindow.{AdaptiveReceiverPacketWindow}
 use Rattle.window.specs.declared.answers.Answer.{Answer}
-use Rattle.window.specs.declared.answers.Answer.the-variants.{Done, New, Replaced, Absent, Found, Pair, Released, Refused}
+use Rattle.window.specs.declared.answers.Answer.the-variants.{Done, New, Replaced, Absent, Found, Pair, Ended, Released, Refused}
 use Rattle.window.specs.declared.answers.Step.{Step}
 use Rattle.window.specs.declared.refusals.Refusal.{Refusal}
 use Rattle.window.specs.declared.refusals.Refusal.the-variants.{Unsound}
@@ -65,7 +65,8 @@ isRefused New = false
 isRefused (Replaced v) = false
 isRefused Absent = false
 isRefused (Found n) = false
-isRefused (Pair s v next) = false
+isRefused (Pair s v next reads) = false
+isRefused (Ended reads) = false
 isRefused (Released values units) = false
 isRefused (Refused why) = true
 
@@ -75,7 +76,8 @@ refuses New k e = absurd (true≢false (sym (ap isRefusal e)))
 refuses (Replaced v) k e = absurd (true≢false (sym (ap isRefusal e)))
 refuses Absent k e = absurd (true≢false (sym (ap isRefusal e)))
 refuses (Found n) k e = absurd (true≢false (sym (ap isRefusal e)))
-refuses (Pair s v next) k e = absurd (true≢false (sym (ap isRefusal e)))
+refuses (Pair s v next reads) k e = absurd (true≢false (sym (ap isRefusal e)))
+refuses (Ended reads) k e = absurd (true≢false (sym (ap isRefusal e)))
 refuses (Released values units) k e = absurd (true≢false (sym (ap isRefusal e)))
 refuses (Refused why) k e = refl
 
@@ -194,15 +196,16 @@ refused-revived a why e = record {
 }
 
 -- past the pattern `Refused` the answer is another
-pub not-refused : (a : Answer) → OneOf (0 ∷ 1 ∷ 2 ∷ 3 ∷ 4 ∷ 5 ∷ 6 ∷ []) (tagOf enum.the-type a) → isRefused a ≡ false
+pub not-refused : (a : Answer) → OneOf (0 ∷ 1 ∷ 2 ∷ 3 ∷ 4 ∷ 5 ∷ 6 ∷ 7 ∷ []) (tagOf enum.the-type a) → isRefused a ≡ false
 not-refused Done t = refl
 not-refused New t = refl
 not-refused (Replaced v) t = refl
 not-refused Absent t = refl
 not-refused (Found n) t = refl
-not-refused (Pair s v next) t = refl
+not-refused (Pair s v next reads) t = refl
+not-refused (Ended reads) t = refl
 not-refused (Released values units) t = refl
-not-refused (Refused why) t = absurd (miss (0 ∷ 1 ∷ 2 ∷ 3 ∷ 4 ∷ 5 ∷ 6 ∷ []) 7 tt t)
+not-refused (Refused why) t = absurd (miss (0 ∷ 1 ∷ 2 ∷ 3 ∷ 4 ∷ 5 ∷ 6 ∷ 7 ∷ []) 8 tt t)
 
 pub other-revived : (a : Answer) → isRefused a ≡ false → RevivedAnswer a a
 other-revived a e = record { taken = λ q. true≢false (sym (refuses a 4 q) ∙ e); same = λ q. refl }

@@ -151,7 +151,8 @@ isFound model.new = false
 isFound (model.replaced v) = false
 isFound model.absent = false
 isFound (model.found n) = true
-isFound (model.pair s v next) = false
+isFound (model.pair s v next reads) = false
+isFound (model.ended reads) = false
 isFound (model.released values units) = false
 isFound (model.refused k) = false
 

@@ -17,7 +17,7 @@ use Rattle.words.proofs.FirstLaws.{first-is, round-up, round-low, round-end}
 use Rattle.window.specs.declared.AdaptiveReceiverPacketWindow.{AdaptiveReceiverPacketWindow}
 use Rattle.window.specs.Memory.{Memory, memory, capacity, position}
 use Rattle.window.proofs.MemoryLaws.{position-lt}
-use Rattle.model.specs.Calls.{successor-after, first-from, Answer, done, new, replaced, absent, found, pair, released, refused}
+use Rattle.model.specs.Calls.{successor-after, first-from, Answer, done, new, replaced, absent, found, pair, ended, released, refused}
 use Rattle.model.specs.Table.{Pair, holds, sequenceOf, searchFrom}
 use Rattle.model.specs.Window.{Window, decode, liveAt, capacityOf}
 use Rattle.model.specs.Steps.{windowAnswer}
@@ -36,7 +36,8 @@ isAbsent new = false
 isAbsent (replaced v) = false
 isAbsent absent = true
 isAbsent (found n) = false
-isAbsent (pair s v next) = false
+isAbsent (pair s v next reads) = false
+isAbsent (ended reads) = false
 isAbsent (released values units) = false
 isAbsent (refused k) = false
 

@@ -14,10 +14,10 @@ use Rattle.words.proofs.CaseLaws.{bool}
 use Rattle.window.specs.declared.AdaptiveReceiverPacketWindow.{AdaptiveReceiverPacketWindow}
 use Rattle.window.proofs.answers.Answer as enum
 use Rattle.window.specs.declared.answers.Answer.{Answer}
-use Rattle.window.specs.declared.answers.Answer.the-variants.{Done, New, Replaced, Absent, Found, Pair, Released, Refused}
+use Rattle.window.specs.declared.answers.Answer.the-variants.{Done, New, Replaced, Absent, Found, Pair, Ended, Released, Refused}
 use Rattle.window.specs.Memory.{Memory, position}
 use Rattle.window.specs.Refusals.{refusalNumber}
-use Rattle.model.specs.Calls.{get, stranger, absent, found, pair, refused}
+use Rattle.model.specs.Calls.{get, stranger, absent, found, pair, ended, refused}
 use Rattle.model.specs.Calls as model
 use Rattle.model.specs.Table as table
 use Rattle.model.specs.Table.{rangeCount, valueIf, sequenceOf, pairAnswer, strangerIn}
@@ -35,7 +35,7 @@ use Rattle.call_read.proofs.StrangerLaws.{sequenceIn, not-found, none-u
 
 -- ---- an answer that is no `Found`, by its tag
 
-other-tag : (a : Answer) (n : ℕ) → OneOf (0 ∷ 1 ∷ 2 ∷ 3 ∷ 5 ∷ 6 ∷ 7 ∷ []) (tagOf enum.the-type a) → answerOf a ≡ found n → ⊥
+other-tag : (a : Answer) (n : ℕ) → OneOf (0 ∷ 1 ∷ 2 ∷ 3 ∷ 5 ∷ 6 ∷ 7 ∷ 8 ∷ []) (tagOf enum.the-type a) → answerOf a ≡ found n → ⊥
 other-tag Done n k e = not-found model.done n refl e
 other-tag New n k e = not-found model.new n refl e
 other-tag (Replaced v) n k e = not-found (model.replaced v) n refl e
@@ -46,8 +46,10 @@ other-tag (Found v) n k e =
     (⊎-elim (λ q. omega arith)
     (⊎-elim (λ q. omega arith)
     (⊎-elim (λ q. omega arith)
-    (⊎-elim (λ q. omega arith) (λ q. omega arith)))))) k
-other-tag (Pair a b c) n k e = not-found (pair a b c) n refl e
+    (⊎-elim (λ q. omega arith)
+    (⊎-elim (λ q. omega arith) (λ q. omega arith))))))) k
+other-tag (Pair a b c d) n k e = not-found (pair a b c d) n refl e
+other-tag (Ended a) n k e = not-found (ended a) n refl e
 other-tag (Released a b) n k e = not-found (model.released a b) n refl e
 other-tag (Refused why) n k e = not-found (refused (refusalNumber why)) n refl e
 
@@ -58,12 +60,12 @@ module _ (h : AdaptiveReceiverPacketWindow) (m : Memory) (s : ℕ) (a : Answer) 
   unfolding decode
   get-gives ok e z q = t ok ∙ ap (valueIf s) z ∙ rw (eq-eqb (e .sequence) s q) refl
 
-  pub gives-pair : (x : ℕ) → a ≡ Found x → GivesPair h m s (pair s x 0)
+  pub gives-pair : (x : ℕ) → a ≡ Found x → GivesPair h m s (pair s x 0 0)
   gives-pair x k = record {
-    gives = λ ok e z q. λ i. pair (sym q i) (ap sequenceIn (sym (ap answerOf k) ∙ get-gives ok e z q) i) 0;
+    gives = λ ok e z q. λ i. pair (sym q i) (ap sequenceIn (sym (ap answerOf k) ∙ get-gives ok e z q) i) 0 0;
   }
 
-  pub gives-none : OneOf (0 ∷ 1 ∷ 2 ∷ 3 ∷ 5 ∷ 6 ∷ 7 ∷ []) (tagOf enum.the-type a) → GivesPair h m s (refused 7)
+  pub gives-none : OneOf (0 ∷ 1 ∷ 2 ∷ 3 ∷ 5 ∷ 6 ∷ 7 ∷ 8 ∷ []) (tagOf enum.the-type a) → GivesPair h m s (refused 7)
   gives-none k = record { gives = λ ok e z q. absurd (other-tag a (e .value) k (get-gives ok e z q)) }
 
 -- ---- the answer, by what the search found

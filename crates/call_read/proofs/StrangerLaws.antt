@@ -16,7 +16,7 @@ use Rattle.words.specs.First.{firstFrom}
 use Rattle.words.proofs.FirstLaws.{first-is, first-eq}
 use Rattle.window.specs.declared.AdaptiveReceiverPacketWindow.{AdaptiveReceiverPacketWindow}
 use Rattle.window.specs.Memory.{memory, capacity, position}
-use Rattle.model.specs.Calls.{Answer, done, new, replaced, absent, found, pair, released, refused}
+use Rattle.model.specs.Calls.{Answer, done, new, replaced, absent, found, pair, ended, released, refused}
 use Rattle.model.specs.Table.{Pair, pairOf, rangeCount, holds, sequenceOf, isStranger}
 use Rattle.model.specs.Window.{Window, decode, liveAt}
 use Rattle.model.specs.Sound.{Sound}
@@ -37,7 +37,8 @@ sequenceIn new = 0
 sequenceIn (replaced v) = 0
 sequenceIn absent = 0
 sequenceIn (found n) = n
-sequenceIn (pair s v next) = 0
+sequenceIn (pair s v next reads) = 0
+sequenceIn (ended reads) = 0
 sequenceIn (released values units) = 0
 sequenceIn (refused k) = 0
 
@@ -47,7 +48,8 @@ isFound new = false
 isFound (replaced v) = false
 isFound absent = false
 isFound (found n) = true
-isFound (pair s v next) = false
+isFound (pair s v next reads) = false
+isFound (ended reads) = false
 isFound (released values units) = false
 isFound (refused k) = false
 

@@ -4,32 +4,52 @@ use mathlib.Core.Path.{_≡_}
 use mathlib.Core.List.{List}
 use mathlib.Core.Bool.{Bool, cond, _&&_}
 use mathlib.Core.Option.{some}
-use Prim.Native.Nat.{ℕ, _+_, _-_, _*_, _≤_}
-use lib.Dec.{ltb}
+use Prim.Native.Nat.{ℕ, _+_, _-_, _*_, _/_, _%_, _≤_}
+use lib.Dec.{ltb, eqb}
 use Rattle.words.specs.First.{firstFrom, firstRound}
+use Rattle.words.specs.Word.{isSet}
 use Rattle.window.specs.declared.AdaptiveReceiverPacketWindow.{AdaptiveReceiverPacketWindow}
 use Rattle.window.specs.Memory.{Memory, memory, position}
 use Rattle.model.specs.Calls.{Answer, absent}
 use Rattle.model.specs.Table.{Pair, covers, sequenceOf, searchFrom, isStranger, pairAnswer}
-use Rattle.model.specs.Window.{Window, decode, sizeOf, liveAt, isReached, capacityOf}
+use Rattle.model.specs.Window.{Window, decode, sizeOf, liveAt, isReached, readsOf, capacityOf}
 use Rattle.model.specs.Sound.{Sound}
+use Rattle.page_base.specs.Page.{wordsAt}
+use Rattle.block_search.specs.declared.Select.the-variants.{Live}
+use Rattle.block_search.specs.Search.{selectedPages}
 use Rattle.block_search.specs.declared.walk.Found.{Found}
 use Rattle.block_search.specs.Contracts.{foundAnswer}
+use Rattle.call_read.specs.declared.cells.Entered.{Entered}
+use Rattle.call_read.specs.declared.cells.NextCell.{NextCell}
 
 -- "successor_after looks from the next position round to its own, last of all"
 pub record FindsRound (h : AdaptiveReceiverPacketWindow) (ss pages blocks : List ℕ) (s : ℕ) (r : Answer) : Type 0 where
   pub gives : (vs : List ℕ) → Sound (decode h (memory ss vs pages blocks))
       → r ≡ searchFrom (capacityOf (decode h (memory ss vs pages blocks))) (liveAt (decode h (memory ss vs pages blocks))) (position (h .«window_size») (s + 1))
 
--- the first reachable cell of page g from its cell `from` on; 64 if there is none
-pub record FindsInPage (h : AdaptiveReceiverPacketWindow) (pages blocks : List ℕ) (g from r : ℕ) : Type 0 where
-  pub bounded : r ≤ 64
-  pub gives : (ss vs : List ℕ) → Sound (decode h (memory ss vs pages blocks)) → r ≡ firstFrom (λ (c : ℕ). isReached (decode h (memory ss vs pages blocks)) (64 * g + c)) (64 - from) from
+-- ---- iter
 
--- the next reachable cell
-pub record FindsCell (h : AdaptiveReceiverPacketWindow) (pages blocks : List ℕ) (start end r : ℕ) : Type 0 where
-  pub bounded : r ≤ end
-  pub gives : (ss vs : List ℕ) → Sound (decode h (memory ss vs pages blocks)) → r ≡ firstFrom (isReached (decode h (memory ss vs pages blocks))) (end - start) start
+-- block b entered after `reads` reads: its retired word is one read more
+abbrev pub enteredAt : List ℕ → (retiredBlocks b reads : ℕ) → Entered
+enteredAt blocks retiredBlocks b reads = record { live = selectedPages blocks retiredBlocks b Live; reads = reads + 1 }
+
+-- cell q is in use, and its page is in the word of the live pages of its block
+abbrev pub isHeld : List ℕ → (live q : ℕ) → Bool
+isHeld pages live q = isSet live (q / 64 % 64) && isSet (wordsAt pages (q / 64) .filled) (q % 64)
+
+-- the first such cell of page g from its cell `from` on, counted from 0 in the page; 64 if there is none
+unfoldable pub cellInPage : List ℕ → (live g from : ℕ) → ℕ
+cellInPage pages live g from = firstFrom (λ (c : ℕ). isHeld pages live (64 * g + c)) (64 - from) from
+
+-- the first such cell of block b from start up to end; end if there is none
+unfoldable pub cellInBlock : List ℕ → (live b start end : ℕ) → ℕ
+cellInBlock pages live b start end = firstFrom (λ (q : ℕ). eqb (q / 4096) b && isHeld pages live q) (end - start) start
+
+-- the next reachable cell; the reads are counted right on every state, for the cell that was found
+pub record FindsCell (h : AdaptiveReceiverPacketWindow) (pages blocks : List ℕ) (start end : ℕ) (r : NextCell) : Type 0 where
+  pub bounded : r .cell ≤ end
+  pub counted : r .reads ≡ readsOf end start (r .cell)
+  pub gives : (ss vs : List ℕ) → Sound (decode h (memory ss vs pages blocks)) → r .cell ≡ firstFrom (isReached (decode h (memory ss vs pages blocks))) (end - start) start
 
 -- ---- stranger
 

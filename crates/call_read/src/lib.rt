@@ -134,7 +134,7 @@ pub fn first_from(
     reply(w, find_round(w, sequences, pages, blocks, before))
 }
 
-// The next reachable pair from a cell number on, with the cell after it; done if there is none.
+// The next reachable pair from a cell number on, with the cell after it, or done; and how many retired words were read.
 fn next_pair(
     w: AdaptiveReceiverPacketWindow,
     sequences: &[u32],
@@ -149,17 +149,19 @@ fn next_pair(
     let start = cell as usize;
     let end = capacity(w.window_size);
     if end <= start {
-        return Answer::Done;
+        return Answer::Ended(0);
     }
     let next = next_cell(w, pages, blocks, start, end);
-    if end <= next {
-        return Answer::Done;
+    let found = next.cell;
+    if end <= found {
+        return Answer::Ended(next.reads);
     }
-    let after = (next + 1) as u32;
-    Answer::Pair(sequences[next], values[next], after)
+    let after = (found + 1) as u32;
+    Answer::Pair(sequences[found], values[found], after, next.reads)
 }
 
-// From a cell number, the next reachable pair in page order, then cell order, with the cell after it; done if there is none.
+// From a cell number, the next reachable pair in page order, then cell order, with the cell after it, or done; and how many retired
+// words of blocks were read.
 pub fn iter(
     w: AdaptiveReceiverPacketWindow,
     sequences: &[u32],

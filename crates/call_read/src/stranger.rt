@@ -113,7 +113,7 @@ fn pair_answer(
 {
     let answer = value_of(w, sequences, values, pages, blocks, sequence);
     if let Answer::Found(value) = answer {
-        return Answer::Pair(sequence, value, 0);
+        return Answer::Pair(sequence, value, 0, 0);
     }
     Answer::Refused(Refusal::Unsound)
 }

@@ -7,10 +7,10 @@ use lib.Dec.{eqb, leb, ltb}
 use Rattle.words.proofs.CaseLaws.{bool}
 use Rattle.words.specs.First.{firstFrom, firstRound}
 use Rattle.window.specs.Memory.{position}
-use Rattle.model.specs.Calls.{Query, get, successor-after, first-from, iter, stranger, check, Call, insert, exchange, remove, remove-range, clear, clear-bounded, release-retired, set-base, take-front, ask, Answer, done, new, replaced, absent, found, pair, released, refused}
+use Rattle.model.specs.Calls.{Query, get, successor-after, first-from, iter, stranger, check, Call, insert, exchange, remove, remove-range, clear, clear-bounded, release-retired, set-base, take-front, ask, Answer, done, new, replaced, absent, found, pair, ended, released, refused}
 use Rattle.model.specs.Roles.{Arguments, no-argument, sequence-argument, range-argument, number-argument, base-argument, roleOf}
 use Rattle.model.specs.Table.{Pair, Table, holds, valueIf, rangeCount, covers, sequenceOf, searchFrom, isStranger, pairAnswer, strangerIn, Known, first, refusedFor, hasPlaces, argumentRefusal}
-use Rattle.model.specs.Window.{Page, Window, sizeOf, capacityOf, cellOf, liveAt, isReached, cellPair, iterStep}
+use Rattle.model.specs.Window.{Page, Window, sizeOf, capacityOf, cellOf, liveAt, isReached, cellPair, readsOf, iterStep}
 use Rattle.model.specs.Pages.{valuesIn, insertPage}
 use Rattle.model.specs.Steps.{Effect, pageOf, liveHere, revive, insertStep, exchangeStep, removeStep, rangeStep, clearStep, clearBoundedStep, releaseStep, frontStep, unlessRefused, windowAnswer, knownBy, windowActs, windowStep, windowDoes}
 
@@ -20,7 +20,8 @@ isSeven new = false
 isSeven (replaced v) = false
 isSeven absent = false
 isSeven (found n) = false
-isSeven (pair s v next) = false
+isSeven (pair s v next reads) = false
+isSeven (ended reads) = false
 isSeven (released values units) = false
 isSeven (refused k) = eqb k 7
 
@@ -94,7 +95,8 @@ module _ (w : Window) where
   unfolding iterStep
   iter-answer cell =
       let c = firstFrom (isReached w) (capacityOf w - cell) cell in
-      neither (pair (cellPair w c .sequence) (cellPair w c .value) (c + 1)) done (ltb c (capacityOf w)) refl refl
+      let k = readsOf (capacityOf w) cell c in
+      neither (pair (cellPair w c .sequence) (cellPair w c .value) (c + 1) k) (ended k) (ltb c (capacityOf w)) refl refl
 
   stranger-answer : (a b : ℕ) → isSeven (strangerIn (sizeOf w) (liveAt w) a b) ≡ false
   unfolding strangerIn

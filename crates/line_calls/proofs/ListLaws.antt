@@ -16,10 +16,10 @@ use denote.Enum.Declared.{tagOf}
 use types.Run.{OneOf, miss}
 use Rattle.window.proofs.answers.Answer as enum
 use Rattle.window.specs.declared.answers.Answer as window
-use Rattle.window.specs.declared.answers.Answer.the-variants.{Done, New, Replaced, Absent, Found, Pair as Paired, Released, Refused}
-use Rattle.model.specs.Calls.{Answer, pair, done, ask, iter}
+use Rattle.window.specs.declared.answers.Answer.the-variants.{Done, New, Replaced, Absent, Found, Pair as Paired, Ended, Released, Refused}
+use Rattle.model.specs.Calls.{Answer, pair, ended, ask, iter}
 use Rattle.model.specs.Table.{Pair, pairOf}
-use Rattle.model.specs.Window.{Window, capacityOf, isReached, cellPair, iterStep, andThen, pairsFrom, livePairs}
+use Rattle.model.specs.Window.{Window, capacityOf, isReached, cellPair, readsOf, iterStep, andThen, pairsFrom, livePairs}
 use Rattle.model.specs.Steps.{windowDoes}
 use Rattle.model.specs.Sound.{SoundWithPoint}
 use Rattle.model.specs.Contract.{State, windowOf, Left, lengthsFit, Meets}
@@ -35,13 +35,14 @@ unfolding windowDoes
 asked u n r m fit ok = m .sound (rw fit refl) ok .answer
 
 -- past the pattern `Pair` its answer has none
-pub none-in : (a : window.Answer) → OneOf (0 ∷ 1 ∷ 2 ∷ 3 ∷ 4 ∷ 6 ∷ 7 ∷ []) (tagOf enum.the-type a) → (rest : ℕ → List Pair) → andThen (answerOf a) rest ≡ []
+pub none-in : (a : window.Answer) → OneOf (0 ∷ 1 ∷ 2 ∷ 3 ∷ 4 ∷ 6 ∷ 7 ∷ 8 ∷ []) (tagOf enum.the-type a) → (rest : ℕ → List Pair) → andThen (answerOf a) rest ≡ []
 none-in Done t rest = refl
 none-in New t rest = refl
 none-in (Replaced v) t rest = refl
 none-in Absent t rest = refl
 none-in (Found n) t rest = refl
-none-in (Paired s v next) t rest = absurd (miss (0 ∷ 1 ∷ 2 ∷ 3 ∷ 4 ∷ 6 ∷ 7 ∷ []) 5 tt t)
+none-in (Paired s v next reads) t rest = absurd (miss (0 ∷ 1 ∷ 2 ∷ 3 ∷ 4 ∷ 6 ∷ 7 ∷ 8 ∷ []) 5 tt t)
+none-in (Ended reads) t rest = refl
 none-in (Released values units) t rest = refl
 none-in (Refused why) t rest = refl
 
@@ -54,17 +55,17 @@ module _ (w : Window) (n : ℕ) where
   abbrev cellFound : ℕ
   cellFound = firstFrom (isReached w) (capacityOf w - n) n
 
-  step-pair : ltb cellFound (capacityOf w) ≡ true → iterStep w n ≡ pair (cellPair w cellFound .sequence) (cellPair w cellFound .value) (cellFound + 1)
+  step-pair : ltb cellFound (capacityOf w) ≡ true → iterStep w n ≡ pair (cellPair w cellFound .sequence) (cellPair w cellFound .value) (cellFound + 1) (readsOf (capacityOf w) n cellFound)
   unfolding iterStep
   step-pair t = rw t
 
-  step-done : ltb cellFound (capacityOf w) ≡ false → iterStep w n ≡ done
+  step-done : ltb cellFound (capacityOf w) ≡ false → iterStep w n ≡ ended (readsOf (capacityOf w) n cellFound)
   unfolding iterStep
   step-done t = rw t
 
   -- the cell after a pair is past the cell that iter began from, and at most the capacity
-  pub next-bounds : (s v next : ℕ) → pair s v next ≡ iterStep w n → (n < next) × (next ≤ capacityOf w)
-  next-bounds s v next e =
+  pub next-bounds : (s v next reads : ℕ) → pair s v next reads ≡ iterStep w n → (n < next) × (next ≤ capacityOf w)
+  next-bounds s v next reads e =
       bool (ltb cellFound (capacityOf w))
       (λ t.
       let same : next ≡ cellFound + 1 = ap (λ (a : Answer). getD (nextIn a) 1 (pairOf 0 0) .sequence) (e ∙ step-pair t) in
@@ -72,9 +73,9 @@ module _ (w : Window) (n : ℕ) where
       (λ t. let none : 2 ≡ 0 = ap (λ (a : Answer). length (nextIn a)) (e ∙ step-done t) in absurd (omega (arith, none)))
 
   -- with a pair first, and with none
-  pub pairs-more : (k s v next : ℕ) → pair s v next ≡ iterStep w n → pairsFrom (suc k) w n ≡ pairOf s v ∷ pairsFrom k w next
+  pub pairs-more : (k s v next reads : ℕ) → pair s v next reads ≡ iterStep w n → pairsFrom (suc k) w n ≡ pairOf s v ∷ pairsFrom k w next
   unfolding pairsFrom
-  pairs-more k s v next e = ap (λ (a : Answer). andThen a (pairsFrom k w)) (sym e)
+  pairs-more k s v next reads e = ap (λ (a : Answer). andThen a (pairsFrom k w)) (sym e)
 
   pub pairs-none : (k : ℕ) → ((rest : ℕ → List Pair) → andThen (iterStep w n) rest ≡ []) → pairsFrom k w n ≡ []
   unfolding pairsFrom
@@ -94,12 +95,12 @@ Goes f w xs cell count = take count xs ++ map f (pairsFrom (capacityOf w - count
 goes-start : (f : Pair → ℕ) (w : Window) (xs : List ℕ) → Goes f w xs 0 0
 goes-start f w xs = let e : capacityOf w - 0 ≡ capacityOf w = omega arith in rw e refl
 
-goes-on : (f : Pair → ℕ) (w : Window) (xs : List ℕ) (cell count s v next : ℕ) → count < length xs → count < capacityOf w → pair s v next ≡ iterStep w cell
+goes-on : (f : Pair → ℕ) (w : Window) (xs : List ℕ) (cell count s v next reads : ℕ) → count < length xs → count < capacityOf w → pair s v next reads ≡ iterStep w cell
     → Goes f w xs cell count → Goes f w (set xs count (f (pairOf s v))) next (count + 1)
-goes-on f w xs cell count s v next l h e g =
+goes-on f w xs cell count s v next reads l h e g =
     let k : capacityOf w - count ≡ suc (capacityOf w - (count + 1)) = omega arith in
     let more : pairsFrom (capacityOf w - count) w cell ≡ pairOf s v ∷ pairsFrom (capacityOf w - (count + 1)) w next =
-    ap (λ (j : ℕ). pairsFrom j w cell) k ∙ pairs-more w cell (capacityOf w - (count + 1)) s v next e in
+    ap (λ (j : ℕ). pairsFrom j w cell) k ∙ pairs-more w cell (capacityOf w - (count + 1)) s v next reads e in
     let rest = map f (pairsFrom (capacityOf w - (count + 1)) w next) in
     ap (λ (j : ℕ). take j (set xs count (f (pairOf s v))) ++ rest) (add-one count)
     ∙ ap (λ (ys : List ℕ). ys ++ rest) (take-suc-set xs count (f (pairOf s v)) l)
@@ -135,25 +136,25 @@ start u ss vs = record {
 }
 
 module _ (u : State) (ss₀ vs₀ ss vs : List ℕ) (cell count : ℕ) (g : SoFar u ss₀ vs₀ ss vs cell count) where
-  part-more : (s v next : ℕ) → count < length ss → count < length vs → pair s v next ≡ iterStep (windowOf u) cell → Part (windowOf u) ss vs cell count
+  part-more : (s v next reads : ℕ) → count < length ss → count < length vs → pair s v next reads ≡ iterStep (windowOf u) cell → Part (windowOf u) ss vs cell count
       → Part (windowOf u) (set ss count s) (set vs count v) next (count + 1)
-  part-more s v next a b e p =
-      let n = next-bounds (windowOf u) cell s v next e in
+  part-more s v next reads a b e p =
+      let n = next-bounds (windowOf u) cell s v next reads e in
       let h : count < capacityOf (windowOf u) = omega (arith, p .behind, n .0, n .1) in
       record {
         behind = omega (arith, p .behind, n .0);
-        sequences = goes-on _ (windowOf u) ss cell count s v next a h e (p .sequences);
-        values = goes-on _ (windowOf u) vs cell count s v next b h e (p .values);
+        sequences = goes-on _ (windowOf u) ss cell count s v next reads a h e (p .sequences);
+        values = goes-on _ (windowOf u) vs cell count s v next reads b h e (p .values);
       }
 
-  pub turn : (s v next : ℕ) (r : Left) → count < length ss → count < length vs → Meets (ask (iter cell)) u [] r → r .answer ≡ pair s v next
+  pub turn : (s v next reads : ℕ) (r : Left) → count < length ss → count < length vs → Meets (ask (iter cell)) u [] r → r .answer ≡ pair s v next reads
       → SoFar u ss₀ vs₀ (set ss count s) (set vs count v) next (count + 1)
-  turn s v next r a b m e = record {
+  turn s v next reads r a b m e = record {
     sequences-long = length-set ss count s ∙ g .sequences-long;
     values-long = length-set vs count v ∙ g .values-long;
     sequences-fit = omega (arith, g .sequences-long);
     values-fit = omega (arith, g .values-long);
-    sound = λ fit ok. part-more s v next a b (sym e ∙ asked u cell r m fit ok) (g .sound fit ok);
+    sound = λ fit ok. part-more s v next reads a b (sym e ∙ asked u cell r m fit ok) (g .sound fit ok);
   }
 
   -- ---- the ways out

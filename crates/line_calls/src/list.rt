@@ -25,7 +25,7 @@ pub fn live_pairs(
         let step = iter(w, sequences, values, pages, blocks, cell);
         let outcome = step.answer;
         let answer = outcome.answer;
-        let Answer::Pair(sequence, value, next) = answer else {
+        let Answer::Pair(sequence, value, next, reads) = answer else {
             break;
         };
         listed_sequences[count] = sequence;

@@ -10,7 +10,7 @@ use Rattle.line_text.specs.PrintContracts.{Puts}
 use Rattle.line_text.proofs.PrintLaws.{put-then, tabbed-none, tabbed-cons, tabbed-few, paired-few, at-most-20, marked-few}
 use Rattle.window.specs.declared.AdaptiveReceiverPacketWindow.{AdaptiveReceiverPacketWindow}
 use Rattle.window.specs.declared.answers.Answer as code
-use Rattle.model.specs.Calls.{Answer, done, new, replaced, absent, found, pair, released, refused}
+use Rattle.model.specs.Calls.{Answer, done, new, replaced, absent, found, pair, ended, released, refused}
 use Rattle.call_base.specs.Answers.{answerOf}
 use Rattle.line_output.specs.Output.{answerBytes, countBytes, headBytes}
 
@@ -26,7 +26,8 @@ answer-few new = omega arith
 answer-few (replaced v) = omega (arith, marked-few 61 v)
 answer-few absent = omega arith
 answer-few (found n) = omega (arith, at-most-20 n)
-answer-few (pair s v next) = omega (arith, at-most-20 s)
+answer-few (pair s v next reads) = omega (arith, at-most-20 s)
+answer-few (ended reads) = omega arith
 answer-few (released values units) = omega (arith, length-append (digits values) (58 ∷ digits units), at-most-20 values, marked-few 58 units)
 answer-few (refused k) = omega (arith, marked-few 33 k)
 

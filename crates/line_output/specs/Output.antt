@@ -5,7 +5,7 @@ use Prim.Native.Nat.{ℕ}
 use lib.ListN.{length}
 use Rattle.line_text.specs.Output.{digits, tabbed, paired}
 use Rattle.window.specs.declared.AdaptiveReceiverPacketWindow.{AdaptiveReceiverPacketWindow}
-use Rattle.model.specs.Calls.{Answer, done, new, replaced, absent, found, pair, released, refused}
+use Rattle.model.specs.Calls.{Answer, done, new, replaced, absent, found, pair, ended, released, refused}
 
 -- "Answers: `.` nothing, `+` new, `=V` replaced V, `-` absent, `!k` refusal k, v gives released:units, l the pair count, else the
 -- number." A pair is shown by its sequence. In bytes: . 46, + 43, = 61, - 45, ! 33, : 58.
@@ -15,7 +15,8 @@ answerBytes new = 43 ∷ []
 answerBytes (replaced v) = 61 ∷ digits v
 answerBytes absent = 45 ∷ []
 answerBytes (found n) = digits n
-answerBytes (pair s v next) = digits s
+answerBytes (pair s v next reads) = digits s
+answerBytes (ended reads) = 46 ∷ []
 answerBytes (released values units) = digits values ++ (58 ∷ digits units)
 answerBytes (refused k) = 33 ∷ digits k
 

@@ -28,7 +28,8 @@ fn put_answer(out: &mut [u8], at: usize, answer: Answer) -> usize
         Answer::Replaced(value) => put_marked(out, at, b'=', value as u64),
         Answer::Absent => put_byte(out, at, b'-'),
         Answer::Found(number) => put_number(out, at, number as u64),
-        Answer::Pair(sequence, value, next) => put_number(out, at, sequence as u64),
+        Answer::Pair(sequence, value, next, reads) => put_number(out, at, sequence as u64),
+        Answer::Ended(reads) => put_byte(out, at, b'.'),
         Answer::Released(values, units) => put_released(out, at, values, units),
         Answer::Refused(why) => put_marked(out, at, b'!', refusal_number(why) as u64),
     }

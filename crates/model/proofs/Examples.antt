@@ -1,5 +1,5 @@
--- Document 01's listing, its edge cases marked * as one list, its traps, stranger's cases, the acknowledge point and the order of
--- refusals, by computation on the definitions. Assumes nothing.
+-- Document 01's listing, its edge cases marked * as one list, its traps, iter's reads, stranger's cases, the acknowledge point and the
+-- order of refusals, by computation on the definitions. Assumes nothing.
 use mathlib.Core.Path.{_≡_, refl}
 use mathlib.Core.Bool.{true, false}
 use mathlib.Core.Option.{some}
@@ -11,7 +11,7 @@ use Rattle.words.specs.Word.{bitAt, withBit, countBelow, span, wordBelow, lowes
 use Rattle.window.specs.Memory.{Memory, capacity}
 use Rattle.window.specs.Refusals.{limits, longEnough}
 use Rattle.window.specs.New.{fresh as freshHeader, made, refused as notMade, newResult, cleared, shortMemory, newOf}
-use Rattle.model.specs.Calls.{get, successor-after, first-from, iter, stranger, check, Call, insert, exchange, remove, ask, remove-range, clear, clear-bounded, release-retired, set-base, take-front, Answer, done, new, absent, found, pair, released, refused}
+use Rattle.model.specs.Calls.{get, successor-after, first-from, iter, stranger, check, Call, insert, exchange, remove, ask, remove-range, clear, clear-bounded, release-retired, set-base, take-front, Answer, done, new, absent, found, pair, ended, released, refused}
 use Rattle.model.specs.Table.{pairOf, fresh, at, rangeCount, distance, sum, heldInRange, searchFrom, strangerIn, known, argumentRefusal, tableStep, tableDoes}
 use Rattle.model.specs.Point.{reach}
 use Rattle.model.specs.Positions.{Positions, positions, plain, drain, inPage, sweep, sweepRange, release, step, does}
@@ -19,7 +19,7 @@ use Rattle.model.specs.Window.{Window, decode, freshWindow, cellOf, iter
 use Rattle.model.specs.Pages.{freeCell, promoted, nthSet, packed, insertPage, drainPage}
 use Rattle.model.specs.Steps.{noteNonempty, splitBlock, releasePage, nextRetired, releaseUnits, revive, removeSlots, retireInBlock, retireBlock, retireBlocks, retirePages, retireStretch, retireRange, retireAll, releasePages, insertStep, exchangeStep, removeStep, frontStep, rangeStep, clearStep, clearBoundedStep, releaseStep, windowStep, windowDoes, Effect}
 use Rattle.model.specs.Runs.{lent, afterNew, after, from, insertsFrom}
-use Rattle.model.proofs.NewLaws.{new-window}
+use Rattle.model.proofs.NewLaws.{new-window, fresh-step}
 
 -- a line of output: answer, len, retired_held, promotions, demotions, dropped values
 record Line : Type 0 where
@@ -122,19 +122,43 @@ traps :
     × (lines (after (afterNew 64 1 1) (insertsFrom 5 2)) (remove 5 ∷ remove 6 ∷ []) ≡ line (found 5) 1 0 1 1 [] ∷ line (found 6) 0 0 1 1 [] ∷ [])
     -- "testing the page mark but not the block mark": after a clear that releases not all, nothing is found, and iter is done
     × (lines (after (afterNew 512 8 0) (insertsFrom 0 512)) (clear true ∷ ask (get 500) ∷ ask (first-from 0) ∷ ask (iter 0) ∷ [])
-    ≡ line done 0 260 8 0 (from 0 252) ∷ line absent 0 260 8 0 [] ∷ line absent 0 260 8 0 [] ∷ line done 0 260 8 0 [] ∷ [])
+    ≡ line done 0 260 8 0 (from 0 252) ∷ line absent 0 260 8 0 [] ∷ line absent 0 260 8 0 [] ∷ line (ended 1) 0 260 8 0 [] ∷ [])
     -- "taking a sparse page's lowest position for its lowest cell": 9 came first and is in cell 0; its cell serves again
     × (lines (afterNew 64 8 2) (insert 9 90 true ∷ insert 5 50 true ∷ ask (iter 0) ∷ remove 9 ∷ insert 7 70 true ∷ ask (iter 0) ∷ [])
-    ≡ line new 1 0 0 0 [] ∷ line new 2 0 0 0 [] ∷ line (pair 9 90 1) 2 0 0 0 [] ∷ line (found 90) 1 0 0 0 [] ∷ line new 2 0 0 0 [] ∷ line (pair 7 70 1) 2 0 0 0 [] ∷ [])
+    ≡ line new 1 0 0 0 [] ∷ line new 2 0 0 0 [] ∷ line (pair 9 90 1 1) 2 0 0 0 [] ∷ line (found 90) 1 0 0 0 [] ∷ line new 2 0 0 0 [] ∷ line (pair 7 70 1 1) 2 0 0 0 [] ∷ [])
 unfolding firstFrom firstRound bitAt withBit countBelow span wordBelow lowest capacity freshHeader freshWindow rangeCount distance sum heldInRange searchFrom cellOf freeCell promoted nthSet packed insertPage drainPage noteNonempty splitBlock releasePage nextRetired releaseUnits revive removeSlots retireInBlock retireBlock retireBlocks retirePages retireStretch retireRange retireAll releasePages insertStep rangeStep clearStep clearBoundedStep releaseStep windowDoes iterStep exchangeStep removeStep
 traps = (refl, refl, refl, refl, refl)
+
+-- ---- document 02, S-2: the retired words that a step of iter reads
+
+-- nothing live in 65536 positions: every block from the given cell's on; from the capacity none
+reads-of-empty : (m : Memory)
+    → let w = freshWindow 65536 8 4 m in
+    (iterStep w 0 ≡ ended 16) × (iterStep w 4095 ≡ ended 16) × (iterStep w 4096 ≡ ended 15) × (iterStep w 65535 ≡ ended 1) × (iterStep w 65536 ≡ ended 0) × (iterStep w 4294967295 ≡ ended 0)
+    -- a window smaller than a block
+    × (iterStep (freshWindow 64 8 4 m) 63 ≡ ended 1) × (iterStep (freshWindow 64 8 4 m) 64 ≡ ended 0)
+unfolding capacity firstFrom freshHeader freshWindow
+reads-of-empty m =
+    let e = fresh-step 65536 8 4 m in
+    let s = fresh-step 64 8 4 m in
+    (e 0, e 4095, e 4096, e 65535, e 65536, e 4294967295, s 63, s 64)
+
+reads :
+    -- 4096 is in the second block: the block of the given cell and that of the pair are counted, one alone if they are the same
+    (lines (afterNew 8192 8 4) (insert 4096 1 true ∷ ask (iter 0) ∷ ask (iter 4095) ∷ ask (iter 4096) ∷ ask (iter 4097) ∷ [])
+    ≡ line new 1 0 0 0 [] ∷ line (pair 4096 1 4097 2) 1 0 0 0 [] ∷ line (pair 4096 1 4097 2) 1 0 0 0 [] ∷ line (pair 4096 1 4097 1) 1 0 0 0 [] ∷ line (ended 1) 1 0 0 0 [] ∷ [])
+    -- both blocks are under a block mark: read and counted, and no page of them is given out
+    × (lines (afterNew 8192 8 4) (insert 5 1 true ∷ insert 4096 2 true ∷ clear-bounded 0 true ∷ ask (iter 0) ∷ ask (iter 4096) ∷ ask (iter 8192) ∷ [])
+    ≡ line new 1 0 0 0 [] ∷ line new 2 0 0 0 [] ∷ line (found 0) 0 2 0 0 [] ∷ line (ended 2) 0 2 0 0 [] ∷ line (ended 1) 0 2 0 0 [] ∷ line (ended 0) 0 2 0 0 [] ∷ [])
+unfolding firstFrom firstRound bitAt withBit countBelow span wordBelow lowest capacity freshHeader freshWindow rangeCount distance sum heldInRange searchFrom cellOf freeCell promoted nthSet packed insertPage drainPage noteNonempty splitBlock releasePage nextRetired releaseUnits revive removeSlots retireInBlock retireBlock retireBlocks retirePages retireStretch retireRange retireAll releasePages insertStep rangeStep clearStep clearBoundedStep releaseStep windowDoes iterStep exchangeStep removeStep
+reads = (refl, refl)
 
 -- ---- stranger: none in an empty window, none in its own range, an alias, a set top bit
 
 strangers :
     lines (afterNew 64 8 2) (ask (stranger 5 5) ∷ insert 5 50 true ∷ ask (stranger 5 5) ∷ ask (stranger 4 6) ∷ ask (stranger 69 69) ∷ remove 5 ∷ insert 2147483653 51 true ∷ ask (stranger 5 5) ∷ ask (stranger 6 9) ∷ [])
-    ≡ line absent 0 0 0 0 [] ∷ line new 1 0 0 0 [] ∷ line absent 1 0 0 0 [] ∷ line absent 1 0 0 0 [] ∷ line (pair 5 50 0) 1 0 0 0 []
-    ∷ line (found 50) 0 0 0 0 [] ∷ line new 1 0 0 0 [] ∷ line (pair 2147483653 51 0) 1 0 0 0 [] ∷ line absent 1 0 0 0 [] ∷ []
+    ≡ line absent 0 0 0 0 [] ∷ line new 1 0 0 0 [] ∷ line absent 1 0 0 0 [] ∷ line absent 1 0 0 0 [] ∷ line (pair 5 50 0 0) 1 0 0 0 []
+    ∷ line (found 50) 0 0 0 0 [] ∷ line new 1 0 0 0 [] ∷ line (pair 2147483653 51 0 0) 1 0 0 0 [] ∷ line absent 1 0 0 0 [] ∷ []
 unfolding firstFrom firstRound bitAt withBit countBelow span wordBelow lowest capacity freshHeader freshWindow rangeCount distance sum heldInRange searchFrom cellOf freeCell promoted nthSet packed insertPage drainPage noteNonempty splitBlock releasePage nextRetired releaseUnits revive removeSlots retireInBlock retireBlock retireBlocks retirePages retireStretch retireRange retireAll releasePages insertStep rangeStep clearStep clearBoundedStep releaseStep windowDoes removeStep strangerIn
 strangers = refl
 

@@ -7,7 +7,7 @@ use Prim.Native.Nat.{ℕ, zero, suc, _+_, _-_, _*_, _/_, _%_, _≤_, _<_}
 use native.Mathlib.Omega.{arith}
 use lib.Dec.{ltb, eqb}
 use lib.ListN.{length, getD, drop, replicate, length-append, length-drop, length-replicate, getD-replicate, List·getD-append}
-use borrow.Author.Tests.{ltb-true}
+use borrow.Author.Tests.{ltb-true, le-ltb}
 use Rattle.words.proofs.CaseLaws.{bool}
 use Rattle.words.specs.First.{firstFrom}
 use Rattle.words.proofs.FirstLaws.{first-is, first-eq}
@@ -20,10 +20,10 @@ use Rattle.window.proofs.MemoryLaws.{page-count-ge}
 use Rattle.window.specs.Refusals.{limits, longEnough, Within, LongEnough}
 use Rattle.window.proofs.RefusalLaws.{limits-within, long-enough-is, is-fit}
 use Rattle.window.specs.New.{fresh, cleared, made, refused, newResult, NewResult, unlessRefused, shortMemory, newOf}
-use Rattle.model.specs.Calls.{done}
+use Rattle.model.specs.Calls.{ended}
 use Rattle.model.specs.Table.{Table, finds, sequenceAt}
 use Rattle.model.specs.Point.{isLive, reach, pointOf}
-use Rattle.model.specs.Window.{Window, noBlock, cellsAt, decode, freshWindow, standsAt, cellOf, isRetired, liveAt, retiredAt, inUse, isReached, iterStep, pairsFrom, livePairs, unreached, retiredValues, capacityOf}
+use Rattle.model.specs.Window.{Window, noBlock, cellsAt, decode, freshWindow, standsAt, cellOf, isRetired, liveAt, retiredAt, inUse, isReached, readsOf, iterStep, pairsFrom, livePairs, unreached, retiredValues, capacityOf}
 use Rattle.model.specs.Pages.{valuesIn}
 use Rattle.model.specs.Sound.{Used, SoundPage, liveIn, retiredIn, SoundWithPoint, Sound}
 use Rattle.model.specs.Contract.{State, windowOf, lengthsFit}
@@ -176,19 +176,20 @@ module _ (size n d : ℕ) (m : Memory) where
   unused : (c : ℕ) → inUse w c ≡ false
   unused c = rw (no-filled (c / 64), not-set (c % 64))
 
-  no-step : (c : ℕ) → iterStep w c ≡ done
+  -- document 02, S-2: a step reads the word of every block from the given cell's on
+  pub fresh-step : (c : ℕ) → iterStep w c ≡ ended (readsOf (capacityOf w) c (capacityOf w))
   unfolding iterStep
-  no-step c =
+  fresh-step c =
       let i = first-is (isReached w) (capacityOf w - c) c in
       let r = firstFrom (isReached w) (capacityOf w - c) c in
       bool (ltb r (capacityOf w))
       (λ t. absurd (true≢false (sym (i .held (omega (arith, ltb-true r (capacityOf w) t))) ∙ rw (unused r))))
-      (λ t. rw t)
+      (λ t. rw (t, le-ltb (capacityOf w) (capacityOf w) (omega arith)))
 
   no-pairs : (k c : ℕ) → pairsFrom k w c ≡ []
   unfolding pairsFrom
   no-pairs zero c = refl
-  no-pairs (suc k) c = rw (no-step c)
+  no-pairs (suc k) c = rw (fresh-step c)
 
   pub fresh-pairs : livePairs w ≡ []
   fresh-pairs = no-pairs (capacityOf w) 0

@@ -12,7 +12,7 @@ use Rattle.words.specs.First.{firstRound}
 use Rattle.words.proofs.FirstLaws.{round-le, round-held, round-none}
 use Rattle.window.specs.Memory.{position}
 use Rattle.window.proofs.MemoryLaws.{position-lt}
-use Rattle.model.specs.Calls.{stranger, ask, Answer, done, new, replaced, absent, found, pair, released, refused}
+use Rattle.model.specs.Calls.{stranger, ask, Answer, done, new, replaced, absent, found, pair, ended, released, refused}
 use Rattle.model.specs.Table.{Pair, pairOf, rangeCount, covers, isStranger, pairAnswer, strangerIn}
 use Rattle.model.specs.Window.{Window, sizeOf, capacityOf, liveAt}
 use Rattle.model.specs.Steps.{windowStep, windowDoes}
@@ -25,7 +25,8 @@ pairIn new = none
 pairIn (replaced v) = none
 pairIn absent = none
 pairIn (found n) = none
-pairIn (pair s v next) = some (pairOf s v)
+pairIn (pair s v next reads) = some (pairOf s v)
+pairIn (ended reads) = none
 pairIn (released values units) = none
 pairIn (refused k) = none
 
@@ -53,14 +54,14 @@ module _ (w : Window) (first last : ℕ) where
   tells-pair : (q : ℕ) → q < capacityOf w → P q ≡ true → (o : Option Pair) → liveAt w q ≡ o → Tells w first last (pairAnswer o)
   tells-pair q l e none z = absurd (true≢false (sym (at-of q l e .strange) ∙ ap (isStranger first (rangeCount first last)) z))
   tells-pair q l e (some x) z = record {
-    given = λ s v n k. (q, at-of q l e, z ∙ ap pairIn k);
+    given = λ s v n r k. (q, at-of q l e, z ∙ ap pairIn k);
     none = λ k. absurd (true≢false (ap (λ (a : Answer). isSome (pairIn a)) k));
     either = inr (x .sequence, x .value, refl);
   }
 
   tells-none : ((q : ℕ) → q < capacityOf w → P q ≡ false) → Tells w first last absent
   tells-none h = record {
-    given = λ s v n k. absurd (true≢false (sym (ap (λ (a : Answer). isSome (pairIn a)) k)));
+    given = λ s v n r k. absurd (true≢false (sym (ap (λ (a : Answer). isSome (pairIn a)) k)));
     none = λ k q t. true≢false (sym (of-at q t) ∙ h q (t .below));
     either = inl refl;
   }

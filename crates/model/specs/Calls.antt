@@ -26,7 +26,7 @@ pub data Call : Type 0 where
 
 -- What a call answers, beside its return list.
 pub data Answer : Type 0 where
-  -- nothing to tell: clear, set_base; check of a sound state; iter from where no pair is left
+  -- nothing to tell: clear, set_base; check of a sound state
   done : Answer
   -- insert put a new pair
   new : Answer
@@ -36,8 +36,10 @@ pub data Answer : Type 0 where
   absent : Answer
   -- a value (get, exchange, remove, take_front), a sequence (successor_after, first_from), a number (remove_range, clear_bounded)
   found : (number : ℕ) → Answer
-  -- a pair and the cell after it (iter); a pair and 0 (stranger)
-  pair : (sequence value next : ℕ) → Answer
+  -- a pair, the cell after it and the reads of retired words (iter); a pair, 0 and 0 (stranger)
+  pair : (sequence value next reads : ℕ) → Answer
+  -- done, with the reads of retired words: iter from where no pair is left
+  ended : (reads : ℕ) → Answer
   -- values released and units used (release_retired)
   released : (values units : ℕ) → Answer
   -- document 01's number of the refusal

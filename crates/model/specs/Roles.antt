@@ -4,7 +4,7 @@ use mathlib.Core.Bool.{Bool, true, false}
 use mathlib.Core.Option.{Option, none, some}
 use mathlib.Core.List.{List, [], _∷_}
 use Prim.Native.Nat.{ℕ}
-use Rattle.model.specs.Calls.{Query, get, successor-after, first-from, iter, stranger, check, Call, insert, exchange, remove, remove-range, clear, clear-bounded, release-retired, set-base, take-front, ask, Answer, done, new, replaced, absent, found, pair, released, refused}
+use Rattle.model.specs.Calls.{Query, get, successor-after, first-from, iter, stranger, check, Call, insert, exchange, remove, remove-range, clear, clear-bounded, release-retired, set-base, take-front, ask, Answer, done, new, replaced, absent, found, pair, ended, released, refused}
 
 -- ---- the arguments that a refusal looks at
 
@@ -24,7 +24,8 @@ given new = []
 given (replaced v) = v ∷ []
 given absent = []
 given (found v) = v ∷ []
-given (pair s v next) = []
+given (pair s v next reads) = []
+given (ended reads) = []
 given (released values units) = []
 given (refused k) = []
 
@@ -35,7 +36,8 @@ unlessRefused v new = v ∷ []
 unlessRefused v (replaced old) = v ∷ []
 unlessRefused v absent = v ∷ []
 unlessRefused v (found n) = v ∷ []
-unlessRefused v (pair s w next) = v ∷ []
+unlessRefused v (pair s w next reads) = v ∷ []
+unlessRefused v (ended reads) = v ∷ []
 unlessRefused v (released values units) = v ∷ []
 unlessRefused v (refused k) = []
 
@@ -46,7 +48,8 @@ ifFound v new = []
 ifFound v (replaced old) = []
 ifFound v absent = []
 ifFound v (found n) = v ∷ []
-ifFound v (pair s w next) = []
+ifFound v (pair s w next reads) = []
+ifFound v (ended reads) = []
 ifFound v (released values units) = []
 ifFound v (refused k) = []
 
@@ -66,7 +69,8 @@ whether new = some new
 whether (replaced v) = some (replaced v)
 whether absent = some absent
 whether (found n) = some (found n)
-whether (pair s v next) = some (pair 0 0 0)
+whether (pair s v next reads) = some (pair 0 0 0 0)
+whether (ended reads) = some (ended reads)
 whether (released values units) = some (released values units)
 whether (refused k) = some (refused k)
 
@@ -77,7 +81,8 @@ ifRefused new = none
 ifRefused (replaced v) = none
 ifRefused absent = none
 ifRefused (found n) = none
-ifRefused (pair s v next) = none
+ifRefused (pair s v next reads) = none
+ifRefused (ended reads) = none
 ifRefused (released values units) = none
 ifRefused (refused k) = some (refused k)
 

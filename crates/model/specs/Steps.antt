@@ -10,7 +10,7 @@ use Rattle.words.specs.First.{firstRound}
 use Rattle.words.specs.Word.{isSet, withBit, setBit, clearBit, wordOf, span}
 use Rattle.window.specs.declared.AdaptiveReceiverPacketWindow.{AdaptiveReceiverPacketWindow}
 use Rattle.window.specs.Memory.{position}
-use Rattle.model.specs.Calls.{Query, get, successor-after, first-from, iter, stranger, check, Call, insert, exchange, remove, remove-range, clear, clear-bounded, release-retired, set-base, take-front, ask, Answer, done, new, replaced, absent, found, pair, released, refused}
+use Rattle.model.specs.Calls.{Query, get, successor-after, first-from, iter, stranger, check, Call, insert, exchange, remove, remove-range, clear, clear-bounded, release-retired, set-base, take-front, ask, Answer, done, new, replaced, absent, found, pair, ended, released, refused}
 use Rattle.model.specs.Table.{Pair, valueIf, finds, sequenceAt, rangeCount, within, sum, heldInRange, searchFrom, strangerIn, Known, known, argumentRefusal}
 use Rattle.model.specs.Demand3.{one}
 use Rattle.model.specs.Window.{Page, Block, Window, window, upd, sizeOf, capacityOf, pagesOf, blocksOf, cellOf, isRetired, liveAt, pointFor, iterStep}
@@ -327,7 +327,8 @@ isNew new = true
 isNew (replaced v) = false
 isNew absent = false
 isNew (found n) = false
-isNew (pair s v next) = false
+isNew (pair s v next reads) = false
+isNew (ended reads) = false
 isNew (released values units) = false
 isNew (refused k) = false
 

@@ -17,7 +17,7 @@ pub record StrangerAt (w : Window) (first last q : ℕ) : Type 0 where
 
 pub record Tells (w : Window) (first last : ℕ) (a : Answer) : Type 0 where
   -- "some live pair"
-  pub given : (s v n : ℕ) → a ≡ pair s v n → (q : ℕ) × StrangerAt w first last q × (liveAt w q ≡ some (pairOf s v))
+  pub given : (s v n r : ℕ) → a ≡ pair s v n r → (q : ℕ) × StrangerAt w first last q × (liveAt w q ≡ some (pairOf s v))
   -- "none exactly if there is none"
   pub none : a ≡ absent → (q : ℕ) → StrangerAt w first last q → ⊥
-  pub either : (a ≡ absent) ⊎ ((s : ℕ) × (v : ℕ) × (a ≡ pair s v 0))
+  pub either : (a ≡ absent) ⊎ ((s : ℕ) × (v : ℕ) × (a ≡ pair s v 0 0))

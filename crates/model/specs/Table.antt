@@ -123,7 +123,7 @@ isStranger first count (some e) = leb (count + 1) (rangeCount first (e .sequence
 
 abbrev pub pairAnswer : Option Pair → Answer
 pairAnswer none = absent
-pairAnswer (some e) = pair (e .sequence) (e .value) 0
+pairAnswer (some e) = pair (e .sequence) (e .value) 0 0
 
 -- "some live pair at a position of first..last": the first of them by position from first's, round the capacity
 unfoldable pub strangerIn : ℕ → Table → ℕ → ℕ → Answer

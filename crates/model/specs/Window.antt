@@ -11,7 +11,7 @@ use Rattle.words.specs.Word.{isSet}
 use Rattle.window.specs.declared.AdaptiveReceiverPacketWindow.{AdaptiveReceiverPacketWindow}
 use Rattle.window.specs.Memory.{Memory, capacity, pageCount, blockCount, pageWords, blockWords, wordAt}
 use Rattle.window.specs.New.{fresh}
-use Rattle.model.specs.Calls.{Answer, done, new, replaced, absent, found, pair, released, refused}
+use Rattle.model.specs.Calls.{Answer, done, new, replaced, absent, found, pair, ended, released, refused}
 use Rattle.model.specs.Table.{Pair, pairOf, Table}
 use Rattle.model.specs.Point.{pointOf}
 
@@ -134,12 +134,22 @@ isReached w n = inUse w n && not (isRetired w (n / 64))
 abbrev pub cellPair : Window → ℕ → Pair
 cellPair w n = pairIn (w .pages (n / 64)) (n % 64)
 
+-- how many blocks the cells from n to c lie in: a block is 64 pages of 64 cells
+abbrev pub blocksFrom : ℕ → ℕ → ℕ
+blocksFrom n c = c / 4096 - n / 4096 + 1
+
+-- document 02, S-2, the reads of a step from cell n: "one for each block from the given cell's to the found pair's, or to the last when
+-- done, and none from capacity or more"; c is the found pair's cell, or not below the capacity when done
+abbrev pub readsOf : (capacity n c : ℕ) → ℕ
+readsOf capacity n c = cond (ltb n capacity) (blocksFrom n (cond (ltb c capacity) c (capacity - 1))) 0
+
 -- "iter is a step: from a cell number, the next reachable pair in page order then cell order with the cell after it, or done (also
--- from capacity or more)"
+-- from capacity or more)"; document 02, S-2: "The step's answer also carries the number of these reads"
 unfoldable pub iterStep : Window → ℕ → Answer
 iterStep w n =
     let c = firstFrom (isReached w) (capacityOf w - n) n in
-    cond (ltb c (capacityOf w)) (pair (cellPair w c .sequence) (cellPair w c .value) (c + 1)) done
+    let reads = readsOf (capacityOf w) n c in
+    cond (ltb c (capacityOf w)) (pair (cellPair w c .sequence) (cellPair w c .value) (c + 1) reads) (ended reads)
 
 -- the pair of a step, and then what comes from the cell after it; nothing if it is done
 abbrev pub andThen : Answer → (ℕ → List Pair) → List Pair
@@ -148,7 +158,8 @@ andThen new rest = []
 andThen (replaced v) rest = []
 andThen absent rest = []
 andThen (found n) rest = []
-andThen (pair s v next) rest = pairOf s v ∷ rest next
+andThen (pair s v next reads) rest = pairOf s v ∷ rest next
+andThen (ended reads) rest = []
 andThen (released values units) rest = []
 andThen (refused k) rest = []
 

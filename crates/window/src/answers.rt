@@ -2,14 +2,16 @@
 use crate::AdaptiveReceiverPacketWindow;
 use crate::refusals::Refusal;
 
-// The answers of document 01, for every call. Pair: a sequence, its value and the cell after it. Released: values and units.
+// The answers of documents 01 and 02, for every call. Pair: a sequence, its value, the cell after it and the reads of retired words.
+// Ended: done, with these reads. Released: values and units.
 pub enum Answer {
     Done,
     New,
     Replaced(u32),
     Absent,
     Found(u32),
-    Pair(u32, u32, u32),
+    Pair(u32, u32, u32, u32),
+    Ended(u32),
     Released(u32, u32),
     Refused(Refusal),
 }

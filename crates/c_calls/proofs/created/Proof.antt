@@ -51,7 +51,7 @@ returns-2 c =
     made-as _ _ _ (c .before .before .before .before .before .made2 .given .1)
     (c .numbered-step2 .ensures
     ∙ (λ i. step (c .before .before .before .no-window .ensures i) (c .before .numbered2 .ensures i))
-    ∙ ap (λ (k : ℕ). step (fresh 0 0 0) (numbered 7 k 0 0)) (c .before .before .refusal-number .ensures))
+    ∙ ap (λ (k : ℕ). step (fresh 0 0 0) (numbered 7 k 0 0 0)) (c .before .before .refusal-number .ensures))
 
 pub created-spec : {M : Type 1} → statement M
 created-spec =

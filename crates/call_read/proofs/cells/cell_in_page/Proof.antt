@@ -1,34 +1,33 @@
--- The first cell in use of one page: none where it is retired, else the lowest bit of its filled word (in-retired, in-live). Assumes nothing.
+-- None where the page is not live, else the lowest bit of its filled word (page-dead, page-live). Assumes nothing.
+use mathlib.Core.Path.{_≡_, sym, ap, _∙_}
 use native.Mathlib.Omega.{arith}
-use Rattle.call_base.proofs.FitLaws.{PageBounds, page-bounds}
-use Rattle.call_read.proofs.OwnPageLaws.{in-retired, in-live}
+use Rattle.words.specs.Word.{lowest}
+use Rattle.page_base.specs.declared.PageWords.{PageWords}
+use Rattle.call_read.proofs.PageCellLaws.{page-dead, page-live}
 use borrow.Author.Needs.{needs}
 use Rattle.call_read.proofs.cells.cell_in_page.Statement.{statement}
 use Rattle.call_read.proofs.cells.cell_in_page.Tie as tie
 
--- the page lies in the lists
-bounds : (c : tie.Start) → PageBounds (c .args .w .«window_size») (c .args .page)
-bounds c = page-bounds _ _ (omega arith)
-
-reachable-requires : tie.Need-reachable-requires
-reachable-requires c κs = let p = bounds (c .before .before) in (p .page-fits, omega (arith, p .block-words))
+bit-requires : tie.Need-bit-requires
+bit-requires c κs = search needs
 
 returns : tie.Need-returns
 returns c =
-    let s = c .before .before .before .before .args in
-    in-retired (s .w) (s .pages .now) (s .blocks .now) (s .page) (s .from) _ (omega arith) (omega arith) (c .before .reachable .ensures) (c .if1 .taken)
+    let s = c .before .before .before .args in
+    page-dead (s .pages .now) (s .live) (s .page) (s .from) (c .before .before .before .pre .1) (sym (c .before .bit .ensures) ∙ c .if1 .taken)
 
 page-words-requires : tie.Need-page-words-requires
-page-words-requires c κs = let p = bounds (c .before .before .before .before) in (p .page-fits, omega (arith, p .words))
+page-words-requires c κs = let p = c .before .before .before .pre in (p .0, p .2)
 
 lowest-requires : tie.Need-lowest-requires
 lowest-requires c κs = search needs
 
 returns-2 : tie.Need-returns-2
 returns-2 c =
-    let s = c .before .before .before .before .before .before .args in
-    in-live (s .w) (s .pages .now) (s .blocks .now) (s .page) (s .from) _ (omega arith) (omega arith) (c .before .before .before .reachable .ensures) (c .before .before .if1 .left) _ _ (c .before .page-words .ensures) (c .lowest .ensures)
+    let s = c .before .before .before .before .before .args in
+    c .lowest .ensures
+    ∙ ap (λ (x : PageWords). lowest (x .filled) (s .from)) (c .before .page-words .ensures)
+    ∙ page-live (s .pages .now) (s .live) (s .page) (s .from) (c .before .before .before .before .before .pre .1) (λ z. c .before .before .if1 .left (c .before .before .before .bit .ensures ∙ z))
 
 pub cell-in-page-spec : {M : Type 1} → statement M
-cell-in-page-spec =
-    tie.close (tie.spec reachable-requires returns page-words-requires lowest-requires returns-2)
+cell-in-page-spec = tie.close (tie.spec bit-requires returns page-words-requires lowest-requires returns-2)

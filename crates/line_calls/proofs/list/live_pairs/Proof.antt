@@ -62,7 +62,7 @@ loop-less c = search needs
 loop-again : tie.Need-loop-again Inv-loop μ-loop
 loop-again c =
     let t : tie.After-iter Inv-loop μ-loop = c .before .before .before .before in
-    laws.turn _ _ _ _ _ _ _ (t .before .before .before .loop .inv) _ _ _ _ (t .before .before .loop-test .taken) (t .before .if1 .left) (t .iter .ensures)
+    laws.turn _ _ _ _ _ _ _ (t .before .before .before .loop .inv) _ _ _ _ _ (t .before .before .loop-test .taken) (t .before .if1 .left) (t .iter .ensures)
     (ap answerOf (c .before .answer .given .1))
 
 -- src/list.rt:8:1
