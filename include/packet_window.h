@@ -76,8 +76,8 @@ extern "C" {
 
 /* ---- version */
 
-/* 10000 * major + 100 * minor + patch: 0.2.0. CHANGELOG.md says what each version changed. */
-#define PACKET_WINDOW_VERSION 200u
+/* 10000 * major + 100 * minor + patch: 0.3.0. CHANGELOG.md says what each version changed. */
+#define PACKET_WINDOW_VERSION 300u
 
 /*
  * The version of the library that is linked. Compare it with PACKET_WINDOW_VERSION once, before the first call: with another version the

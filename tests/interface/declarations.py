@@ -93,8 +93,12 @@ def rust_structs(text, types):
 
 
 def source_codes(text):
-    """Answer::Found(..) => numbered(4, ..): FOUND is 4."""
-    return {upper(name): int(code) for name, code in re.findall(r"Answer::(\w+)(?:\([^)]*\))? => numbered\((\d+)", text)}
+    """Answer::Found(..) => numbered(4, ..): FOUND is 4. A later answer with the same code, as iter's done with its reads, has no name of
+    its own there."""
+    names = {}
+    for name, code in re.findall(r"Answer::(\w+)(?:\([^)]*\))? => numbered\((\d+)", text):
+        names.setdefault(int(code), upper(name))
+    return {name: code for code, name in names.items()}
 
 
 def source_refusals(text):

@@ -3,4 +3,4 @@ use Prim.Native.Nat.{ℕ}
 
 -- 0.2.0, as 10000 × major + 100 × minor + patch
 abbrev pub version : ℕ
-version = 200
+version = 300

@@ -123,8 +123,8 @@ module _ (h : AdaptiveReceiverPacketWindow) (pages blocks : List ℕ) (start end
       held-in (start / 4096) q (omega arith) ∙ subst (λ (k : ℕ). isHeld pages (pagesOf (start / 4096)) k ≡ false) d (i .none (q % 64) (omega arith) (omega arith)))
       (let one : 1 ≡ start / 4096 - start / 4096 + 1 = omega arith in one ∙ reads-found z (start / 4096) (omega (arith, top, b)) (omega arith))
 
-  pub none-begins : NoneBefore pages blocks (h .«retired_blocks») start end (start / 4096)
-  none-begins = record { none = λ q a b l. absurd (omega arith) }
+  pub none-begins : (b : ℕ) → b ≤ start / 4096 → NoneBefore pages blocks (h .«retired_blocks») start end b
+  none-begins b low = record { none = λ q a l k. absurd (omega arith) }
 
   -- c is what block b gave
   module _ (b c : ℕ) (low : start / 4096 ≤ b) (t : NoneBefore pages blocks (h .«retired_blocks») start end b)

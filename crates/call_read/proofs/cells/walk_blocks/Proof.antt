@@ -28,9 +28,13 @@ sub-last c = search needs
 loop-holds : tie.Need-loop-holds Inv-loop μ-loop
 loop-holds c =
     let s = c .before .before in
-    let b : s .args .start / 64 / 64 ≡ s .args .start / 4096 = omega arith in
-    let none : s .args .start / 4096 - s .args .start / 4096 ≡ 0 = omega arith in
-    rw (b, none) (omega arith, omega (arith, s .pre .0 .1), s .pre .1 .1, none-begins (s .args .w) _ _ _ _ (s .pre .0 .1) (s .pre .0 .2))
+    let b : s .args .start / 4096 ≡ s .args .start / 64 / 64 = omega arith in
+    let none : 0 ≡ s .args .start / 64 / 64 - s .args .start / 4096 = omega arith in (
+      omega arith,
+      omega (arith, s .pre .0 .1),
+      s .pre .1 .1 ∙ (λ i. enteredAt (s .args .blocks .now) (s .args .w .«retired_blocks») (b i) (none i)),
+      none-begins (s .args .w) _ _ _ _ (s .pre .0 .1) (s .pre .0 .2) _ (omega arith),
+    )
 
 -- the last block is one of the window's
 last-is : (c : tie.At-loop Inv-loop μ-loop)
