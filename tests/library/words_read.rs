@@ -7,27 +7,13 @@
 #[allow(dead_code)] // other tests use the rest
 mod declared;
 mod reads;
+mod sigaction;
 
 use declared::*;
 use reads::{reads_due, BLOCK_CELLS};
+use sigaction::{sigaction, Action, Handler, Information, WITH_INFORMATION};
 use std::ffi::{c_int, c_void};
 use std::process::ExitCode;
-
-#[repr(C)]
-struct Action {
-    handler: extern "C" fn(c_int, *const Information, *mut Context),
-    mask: [u64; 16],
-    flags: c_int,
-    restorer: usize,
-}
-
-#[repr(C)]
-struct Information {
-    number: c_int,
-    error: c_int,
-    code: c_int,
-    address: usize,
-}
 
 /// As far as the flags of the x86-64 processor: ucontext_t, whose general registers come after 40 bytes, the flags 17th of them.
 #[repr(C)]
@@ -37,14 +23,12 @@ struct Context {
 }
 
 extern "C" {
-    fn sigaction(signal: c_int, action: *const Action, old: *mut Action) -> c_int;
     fn mmap(start: *mut c_void, bytes: usize, protection: c_int, flags: c_int, file: c_int, at: i64) -> *mut c_void;
     fn mprotect(start: *mut c_void, bytes: usize, protection: c_int) -> c_int;
 }
 
 const TRAP: c_int = 5;
 const FAULT: c_int = 11;
-const WITH_INFORMATION: c_int = 4;
 const CLOSED: c_int = 0;
 const OPEN: c_int = 3;
 const PRIVATE_AND_ANONYMOUS: c_int = 0x22;
@@ -62,7 +46,7 @@ unsafe fn protect(protection: c_int) {
 }
 
 /// A read of the watched memory: noted, then done by one step of the processor. Any other fault ends the program.
-extern "C" fn faulted(_: c_int, information: *const Information, context: *mut Context) {
+extern "C" fn faulted(_: c_int, information: *const Information, context: *mut c_void) {
     unsafe {
         let start = WATCHED as usize;
         let address = (*information).address;
@@ -72,14 +56,14 @@ extern "C" fn faulted(_: c_int, information: *const Information, context: *mut C
         SEEN[COUNT] = (address - start) / 8;
         COUNT += 1;
         protect(OPEN);
-        (*context).registers[FLAGS] |= SINGLE_STEP;
+        (*context.cast::<Context>()).registers[FLAGS] |= SINGLE_STEP;
     }
 }
 
-extern "C" fn stepped(_: c_int, _: *const Information, context: *mut Context) {
+extern "C" fn stepped(_: c_int, _: *const Information, context: *mut c_void) {
     unsafe {
         protect(CLOSED);
-        (*context).registers[FLAGS] &= !SINGLE_STEP;
+        (*context.cast::<Context>()).registers[FLAGS] &= !SINGLE_STEP;
     }
 }
 
@@ -88,7 +72,7 @@ fn watch() {
         let start = mmap(std::ptr::null_mut(), BYTES, OPEN, PRIVATE_AND_ANONYMOUS, -1, 0);
         assert_ne!(start as isize, -1, "no memory");
         WATCHED = start.cast();
-        for (signal, handler) in [(FAULT, faulted as extern "C" fn(_, _, _)), (TRAP, stepped)] {
+        for (signal, handler) in [(FAULT, faulted as Handler), (TRAP, stepped)] {
             let action = Action { handler, mask: [0; 16], flags: WITH_INFORMATION, restorer: 0 };
             assert_eq!(sigaction(signal, &action, std::ptr::null_mut()), 0);
         }

@@ -24,6 +24,8 @@ mod memory;
 mod operations;
 #[path = "../library/reads.rs"]
 mod reads;
+#[path = "../library/sigaction.rs"]
+mod sigaction;
 mod signals;
 #[allow(dead_code)] // the test of check uses the rest
 #[path = "../library/soundness.rs"]

@@ -2,26 +2,11 @@
 
 use crate::memory::{Memory, NAMES};
 use crate::operations::Call;
+use crate::sigaction::{sigaction, Action, Handler, Information, WITH_INFORMATION};
 use std::ffi::{c_int, c_void};
 use std::fmt::{self, Write};
 use std::ptr::{addr_of, addr_of_mut};
 use std::sync::atomic::{AtomicBool, AtomicU64, Ordering::Relaxed};
-
-#[repr(C)]
-struct Action {
-    handler: extern "C" fn(c_int, *const Information, *const c_void),
-    mask: [u64; 16],
-    flags: c_int,
-    restorer: usize,
-}
-
-#[repr(C)]
-struct Information {
-    number: c_int,
-    error: c_int,
-    code: c_int,
-    address: usize,
-}
 
 #[repr(C)]
 struct Stack {
@@ -36,7 +21,6 @@ struct Timer {
 }
 
 extern "C" {
-    fn sigaction(signal: c_int, action: *const Action, old: *mut Action) -> c_int;
     fn sigaltstack(stack: *const Stack, old: *mut Stack) -> c_int;
     fn setitimer(which: c_int, timer: *const Timer, old: *mut Timer) -> c_int;
     fn write(file: c_int, from: *const u8, bytes: usize) -> isize;
@@ -51,7 +35,6 @@ const VIRTUAL: c_int = 1;
 /// Seconds of its own time after which a call counts as endless: at least these, at most twice as many.
 const LIMIT: i64 = 2;
 const ON_STACK: c_int = 0x0800_0000;
-const WITH_INFORMATION: c_int = 4;
 const STACK_BYTES: usize = 64 << 10;
 
 /// The call under way.
@@ -131,7 +114,7 @@ fn report(what: &str, address: Option<usize>) -> ! {
     }
 }
 
-extern "C" fn faulted(signal: c_int, information: *const Information, _: *const c_void) {
+extern "C" fn faulted(signal: c_int, information: *const Information, _: *mut c_void) {
     let what = match signal {
         7 | 11 => "access outside of the lent memory",
         _ => "trap",
@@ -139,14 +122,14 @@ extern "C" fn faulted(signal: c_int, information: *const Information, _: *const 
     report(what, Some(unsafe { (*information).address }));
 }
 
-extern "C" fn alarmed(_: c_int, _: *const Information, _: *const c_void) {
+extern "C" fn alarmed(_: c_int, _: *const Information, _: *mut c_void) {
     let calls = CALLS.load(Relaxed);
     if LAST_SEEN.swap(calls, Relaxed) == calls && IN_CALL.load(Relaxed) {
         report("no end", None);
     }
 }
 
-fn install(signal: c_int, handler: extern "C" fn(c_int, *const Information, *const c_void)) {
+fn install(signal: c_int, handler: Handler) {
     let flags = ON_STACK | WITH_INFORMATION;
     let action = Action { handler, mask: [0; 16], flags, restorer: 0 };
     assert_eq!(unsafe { sigaction(signal, &action, std::ptr::null_mut()) }, 0);

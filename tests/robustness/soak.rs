@@ -25,6 +25,8 @@ mod operations;
 mod reads;
 mod replay;
 mod show;
+#[path = "../library/sigaction.rs"]
+mod sigaction;
 mod signals;
 
 use calls::Random;
