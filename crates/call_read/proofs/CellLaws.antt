@@ -1,21 +1,20 @@
 -- The next reachable cell, over plain variables: in one page, in one block, and from block to block. Assumes nothing.
 use mathlib.Core.Path.{_≡_, refl, sym, ap, _∙_, subst}
-use mathlib.Core.Bool.{Bool, true, false, cond, _&&_, true≢false, and-true, and-false}
+use mathlib.Core.Bool.{Bool, true, false, _&&_, and-true, and-false}
 use mathlib.Core.List.{List}
 use Prim.Native.Nat.{ℕ, _+_, _-_, _*_, _/_, _%_, _≤_, _<_}
 use native.Mathlib.Omega.{arith}
-use native.Mathlib.Decide.{decLt, ℕ-discrete}
-use lib.Dec.{eqb, ltb}
+use native.Mathlib.Decide.{ℕ-discrete}
+use lib.Dec.{eqb}
 use borrow.Author.Tests.{eqb-true, eq-eqb, ne-eqb, lt-ltb, le-ltb}
 use Rattle.words.proofs.CaseLaws.{bool, both}
-use Rattle.words.specs.First.{firstFrom}
 use Rattle.words.proofs.FirstLaws.{IsFirst, first-is, first-eq}
 use Rattle.words.specs.Word.{bitAt, isSet}
 use Rattle.words.proofs.BitLaws.{bit-lt, bit-none}
 use Rattle.window.specs.declared.AdaptiveReceiverPacketWindow.{AdaptiveReceiverPacketWindow}
 use Rattle.window.specs.Memory.{Memory, memory, capacity, pageCount}
 use Rattle.window.proofs.MemoryLaws.{capacity-pages}
-use Rattle.model.specs.Window.{Page, Window, decode, isRetired, inUse, isReached, blocksFrom, readsOf}
+use Rattle.model.specs.Window.{Page, decode, isRetired, inUse, isReached, readsOf}
 use Rattle.model.specs.Sound.{Sound}
 use Rattle.page_base.specs.Page.{wordsAt, partOf, page, Placed}
 use Rattle.page_base.proofs.DecodeLaws.{page-at}
@@ -24,8 +23,7 @@ use Rattle.block_search.specs.declared.Select.the-variants.{Live}
 use Rattle.block_search.specs.Search.{selectedPages}
 use Rattle.block_search.proofs.SearchLaws.{live-in-block, empty-in-block}
 use Rattle.call_base.proofs.FitLaws.{at-bounds}
-use Rattle.call_read.specs.declared.cells.NextCell.{NextCell}
-use Rattle.call_read.specs.Contracts.{enteredAt, isHeld, cellInPage, cellInBlock, FindsCell}
+use Rattle.call_read.specs.Contracts.{isHeld, cellInPage, cellInBlock, FindsCell}
 
 -- ---- on a sound window the cells that the words hold are those that are reached
 

@@ -1,7 +1,7 @@
 -- The first cell of a block's live pages, over plain variables: what is known of the pages still to be looked at, and each step of the
 -- loop. Assumes nothing.
 use mathlib.Core.Path.{_≡_, sym, ap, _∙_}
-use mathlib.Core.Bool.{Bool, true, false, cond, _&&_, and-false}
+use mathlib.Core.Bool.{Bool, true, false, _&&_, and-false}
 use mathlib.Core.List.{List}
 use Prim.Native.Nat.{ℕ, _+_, _-_, _*_, _/_, _%_, _^_, _≤_, _<_}
 use native.Mathlib.Omega.{arith}
@@ -9,15 +9,13 @@ use native.Mathlib.Decide.{decLt, ℕ-discrete}
 use lib.Dec.{eqb, leb, ltb}
 use lib.Bits.{bitAnd, and-le-l}
 use borrow.Author.Tests.{eqb-true, eq-eqb, ne-eqb, le-leb, lt-ltb, leb-true, ltb-true}
-use Rattle.words.proofs.CaseLaws.{bool, both}
-use Rattle.words.specs.First.{firstFrom}
+use Rattle.words.proofs.CaseLaws.{both}
 use Rattle.words.proofs.FirstLaws.{first-eq, first-same}
 use Rattle.words.specs.Word.{bitAt, isSet, lowest, clearBit, count}
 use Rattle.words.proofs.BitLaws.{bit-lt, bit-none, bit-past, bit-and}
 use Rattle.words.proofs.ChangeLaws.{with-other, with-lt}
 use Rattle.words.proofs.CountLaws.{count-clear}
 use Rattle.words.proofs.LowestLaws.{lowest-is, lowest-some}
-use Rattle.model.specs.Table.{within}
 use Rattle.page_base.specs.declared.PageWords.{PageWords}
 use Rattle.page_base.specs.Page.{wordsAt}
 use Rattle.block_search.specs.Search.{bitsWithin}

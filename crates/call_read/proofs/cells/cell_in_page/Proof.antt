@@ -1,6 +1,5 @@
 -- None where the page is not live, else the lowest bit of its filled word (page-dead, page-live). Assumes nothing.
-use mathlib.Core.Path.{_≡_, sym, ap, _∙_}
-use native.Mathlib.Omega.{arith}
+use mathlib.Core.Path.{sym, ap, _∙_}
 use Rattle.words.specs.Word.{lowest}
 use Rattle.page_base.specs.declared.PageWords.{PageWords}
 use Rattle.call_read.proofs.PageCellLaws.{page-dead, page-live}

@@ -1,6 +1,5 @@
 -- The block's pages as selected_pages gives them, and one read more. Assumes nothing.
 use Prim.Native.Nat.{_+_}
-use native.Mathlib.Omega.{arith}
 use borrow.Author.Needs.{needs}
 use Rattle.call_read.proofs.cells.enter_block.Statement.{statement}
 use Rattle.call_read.proofs.cells.enter_block.Tie as tie

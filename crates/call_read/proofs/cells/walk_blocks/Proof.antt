@@ -1,7 +1,7 @@
 -- Block by block: no cell before the block is held, and each block entered is one read (NoneBefore; block-cell, block-end). Assumes
 -- nothing.
 use mathlib.Core.Path.{_≡_, sym, ap, _∙_, subst}
-use Prim.Native.Nat.{ℕ, _+_, _-_, _*_, _/_, _≤_, _<_}
+use Prim.Native.Nat.{ℕ, _+_, _-_, _/_, _≤_, _<_}
 use native.Mathlib.Omega.{arith}
 use Rattle.window.specs.Memory.{pageCount, blockCount}
 use Rattle.window.proofs.MemoryLaws.{capacity-le, capacity-pages}
