@@ -13,10 +13,10 @@ use Rattle.words.specs.First.{firstFrom}
 use Rattle.words.proofs.FirstLaws.{first-eq}
 use Rattle.words.specs.Word.{bitAt, isSet, span, lowest, clearBit, count}
 use Rattle.words.proofs.BitLaws.{bit-lt, bit-none, bit-and}
-use Rattle.words.proofs.ChangeLaws.{with-other, with-lt}
-use Rattle.words.proofs.CountLaws.{count-clear}
+use Rattle.words.proofs.ChangeLaws.{with-other}
 use Rattle.words.proofs.SpanLaws.{span-in, span-below, span-above, span-lt}
 use Rattle.words.proofs.LowestLaws.{lowest-is, lowest-some}
+use Rattle.words.proofs.TakeLaws.{taken-held, rest-fits, rest-among, rest-fewer}
 use Rattle.words.proofs.TestLaws.{and-set}
 use Rattle.model.specs.Table.{within}
 use Rattle.block_search.specs.declared.Select.{Select}
@@ -105,7 +105,7 @@ module _ (blocks : List ℕ) (summary retiredBlocks start end : ℕ) (select : S
     block-below = lowest-some left (known .small) some
 
     block-held : bitAt left b ≡ 1
-    block-held = lowest-is left 0 (omega arith) .held block-below
+    block-held = taken-held left (known .small) some
 
     pub block-in : (start / 64 ≤ b) × (b ≤ (end - 1) / 64)
     block-in = (known .low b block-held, known .high b block-held)
@@ -114,15 +114,12 @@ module _ (blocks : List ℕ) (summary retiredBlocks start end : ℕ) (select : S
     before d l = lowest-is left 0 (omega arith) .none d (omega arith) l
 
     kept : (d : ℕ) → bitAt (clearBit left b) d ≡ 1 → bitAt left d ≡ 1
-    kept d e = elim (ℕ-discrete d b) [
-      | yes p ↦ ap (bitAt left) p ∙ block-held
-      | no p ↦ sym (with-other left b 0 d (omega arith) p) ∙ e
-    ]
+    kept = rest-among left (known .small) some
 
     -- its block holds no such page
     pub goes-on : pagesIn b ≡ 0 → Left (clearBit left b)
     goes-on e = record {
-      small = with-lt 64 left b 0 (known .small) block-below (omega arith);
+      small = rest-fits left (known .small) some;
       low = λ d q. known .low d (kept d q);
       high = λ d q. known .high d (kept d q);
       named = λ d q. known .named d (kept d q);
@@ -133,7 +130,7 @@ module _ (blocks : List ℕ) (summary retiredBlocks start end : ℕ) (select : S
     }
 
     pub fewer : count (clearBit left b) < count left
-    fewer = let c = count-clear 64 left b block-below block-held in omega (arith, c)
+    fewer = rest-fewer left (known .small) some
 
     -- its block holds such a page
     pub finds : (pagesIn b ≡ 0 → ⊥) → 64 * b + lowest (pagesIn b) 0 ≡ firstFrom Looked (end - start) start

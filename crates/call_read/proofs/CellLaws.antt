@@ -1,4 +1,4 @@
--- The next reachable cell, over plain variables: in one page, in one block, and from block to block. Assumes nothing.
+-- The next reachable cell, over plain variables, from block to block; PageCellLaws has what one page and one block give. Assumes nothing.
 use mathlib.Core.Path.{_≡_, refl, sym, ap, _∙_, subst}
 use mathlib.Core.Bool.{Bool, true, false, _&&_, and-true, and-false}
 use mathlib.Core.List.{List}
@@ -23,7 +23,7 @@ use Rattle.block_search.specs.declared.Select.the-variants.{Live}
 use Rattle.block_search.specs.Search.{selectedPages}
 use Rattle.block_search.proofs.SearchLaws.{live-in-block, empty-in-block}
 use Rattle.call_base.proofs.FitLaws.{at-bounds}
-use Rattle.call_read.specs.Contracts.{isHeld, cellInPage, cellInBlock, FindsCell}
+use Rattle.call_read.specs.Contracts.{isLiveCell, cellInPage, cellInBlock, FindsCell}
 
 -- ---- on a sound window the cells that the words hold are those that are reached
 
@@ -53,7 +53,7 @@ module _ (h : AdaptiveReceiverPacketWindow) (m : Memory) (ok : Sound (decode h m
   used-is : inUse (decode h m) q ≡ isSet (wordsAt (m .pages) (q / 64) .filled) (q % 64)
   used-is = ap (λ (p : Page). isSet (p .filled) (q % 64)) words-are
 
-  held-is : isHeld (m .pages) (selectedPages (m .blocks) (h .«retired_blocks») (q / 64 / 64) Live) q ≡ isReached (decode h m) q
+  held-is : isLiveCell (m .pages) (selectedPages (m .blocks) (h .«retired_blocks») (q / 64 / 64) Live) q ≡ isReached (decode h m) q
   held-is =
       bool (isSet live (g % 64))
       (λ s. rw (s, live-in-block h m ok g inside s .1, used-is) (sym (and-true _)))
@@ -70,21 +70,18 @@ module _ (h : AdaptiveReceiverPacketWindow) (m : Memory) (ok : Sound (decode h m
 
 -- no cell from start on and below block b is held
 pub record NoneBefore (pages blocks : List ℕ) (retiredBlocks start end b : ℕ) : Type 0 where
-  pub none : (q : ℕ) → start ≤ q → q < end → q / 4096 < b → isHeld pages (selectedPages blocks retiredBlocks (q / 64 / 64) Live) q ≡ false
+  pub none : (q : ℕ) → start ≤ q → q < end → q / 4096 < b → isLiveCell pages (selectedPages blocks retiredBlocks (q / 64 / 64) Live) q ≡ false
 
 module _ (h : AdaptiveReceiverPacketWindow) (pages blocks : List ℕ) (start end : ℕ) (some : start < end) (top : end ≡ capacity (h .«window_size»)) where
   abbrev pagesOf : ℕ → ℕ
   pagesOf b = selectedPages blocks (h .«retired_blocks») b Live
 
-  abbrev heldAt : ℕ → Bool
-  heldAt q = isHeld pages (pagesOf (q / 64 / 64)) q
-
   -- by the block of the cell
-  held-in : (b q : ℕ) → q / 4096 ≡ b → isHeld pages (selectedPages blocks (h .«retired_blocks») (q / 64 / 64) Live) q ≡ isHeld pages (selectedPages blocks (h .«retired_blocks») b Live) q
-  held-in b q e = let d : q / 64 / 64 ≡ b = omega (arith, e) in ap (λ (x : ℕ). isHeld pages (pagesOf x) q) d
+  held-in : (b q : ℕ) → q / 4096 ≡ b → isLiveCell pages (selectedPages blocks (h .«retired_blocks») (q / 64 / 64) Live) q ≡ isLiveCell pages (selectedPages blocks (h .«retired_blocks») b Live) q
+  held-in b q e = let d : q / 64 / 64 ≡ b = omega (arith, e) in ap (λ (x : ℕ). isLiveCell pages (pagesOf x) q) d
 
-  finds : (c reads : ℕ) → start ≤ c → c ≤ end → (c < end → isHeld pages (selectedPages blocks (h .«retired_blocks») (c / 64 / 64) Live) c ≡ true)
-      → ((q : ℕ) → start ≤ q → q < c → isHeld pages (selectedPages blocks (h .«retired_blocks») (q / 64 / 64) Live) q ≡ false) → reads ≡ readsOf end start c
+  finds : (c reads : ℕ) → start ≤ c → c ≤ end → (c < end → isLiveCell pages (selectedPages blocks (h .«retired_blocks») (c / 64 / 64) Live) c ≡ true)
+      → ((q : ℕ) → start ≤ q → q < c → isLiveCell pages (selectedPages blocks (h .«retired_blocks») (q / 64 / 64) Live) q ≡ false) → reads ≡ readsOf end start c
       → FindsCell h pages blocks start end (record { cell = c; reads = reads })
   finds c reads low high held none e = record {
     bounded = high;
@@ -111,34 +108,34 @@ module _ (h : AdaptiveReceiverPacketWindow) (pages blocks : List ℕ) (start end
       → FindsCell h pages blocks start end (record { cell = 64 * (start / 64) + c; reads = 1 })
   unfolding cellInPage
   own-cell c e l =
-      let P : ℕ → Bool = λ (x : ℕ). isHeld pages (pagesOf (start / 4096)) (64 * (start / 64) + x) in
+      let P : ℕ → Bool = λ (x : ℕ). isLiveCell pages (pagesOf (start / 4096)) (64 * (start / 64) + x) in
       let i = subst (IsFirst P (start % 64) (64 - start % 64 + start % 64)) (sym e) (first-is P (64 - start % 64) (start % 64)) in
       let b = capacity-pages (h .«window_size») in
       let z = 64 * (start / 64) + c in
       finds z 1 (omega (arith, i .from)) (omega (arith, top, b)) (λ k. held-in (start / 4096) z (omega arith) ∙ i .held (omega arith))
       (λ q x y.
       let d : 64 * (start / 64) + q % 64 ≡ q = omega arith in
-      held-in (start / 4096) q (omega arith) ∙ subst (λ (k : ℕ). isHeld pages (pagesOf (start / 4096)) k ≡ false) d (i .none (q % 64) (omega arith) (omega arith)))
+      held-in (start / 4096) q (omega arith) ∙ subst (λ (k : ℕ). isLiveCell pages (pagesOf (start / 4096)) k ≡ false) d (i .none (q % 64) (omega arith) (omega arith)))
       (let one : 1 ≡ start / 4096 - start / 4096 + 1 = omega arith in one ∙ reads-found z (start / 4096) (omega (arith, top, b)) (omega arith))
 
   pub none-begins : (b : ℕ) → b ≤ start / 4096 → NoneBefore pages blocks (h .«retired_blocks») start end b
   none-begins b low = record { none = λ q a l k. absurd (omega arith) }
 
   -- c is what block b gave
-  module _ (b c : ℕ) (low : start / 4096 ≤ b) (t : NoneBefore pages blocks (h .«retired_blocks») start end b)
+  module _ (b c : ℕ) (t : NoneBefore pages blocks (h .«retired_blocks») start end b)
       (e : c ≡ cellInBlock pages (selectedPages blocks (h .«retired_blocks») b Live) b start end) where
     abbrev P : ℕ → Bool
-    P q = eqb (q / 4096) b && isHeld pages (pagesOf b) q
+    P q = eqb (q / 4096) b && isLiveCell pages (pagesOf b) q
 
-    found-is : IsFirst (λ (q : ℕ). eqb (q / 4096) b && isHeld pages (selectedPages blocks (h .«retired_blocks») b Live) q) start (end - start + start) c
+    found-is : IsFirst (λ (q : ℕ). eqb (q / 4096) b && isLiveCell pages (selectedPages blocks (h .«retired_blocks») b Live) q) start (end - start + start) c
     unfolding cellInBlock
     found-is = subst (IsFirst P start (end - start + start)) (sym e) (first-is P (end - start) start)
 
     -- none of the block's cells before it
-    none-in : (q : ℕ) → start ≤ q → q < c → q / 4096 ≡ b → isHeld pages (selectedPages blocks (h .«retired_blocks») (q / 64 / 64) Live) q ≡ false
-    none-in q a l d = held-in b q d ∙ subst (λ (x : Bool). (x && isHeld pages (pagesOf b) q) ≡ false) (eq-eqb (q / 4096) b d) (found-is .none q a l)
+    none-in : (q : ℕ) → start ≤ q → q < c → q / 4096 ≡ b → isLiveCell pages (selectedPages blocks (h .«retired_blocks») (q / 64 / 64) Live) q ≡ false
+    none-in q a l d = held-in b q d ∙ subst (λ (x : Bool). (x && isLiveCell pages (pagesOf b) q) ≡ false) (eq-eqb (q / 4096) b d) (found-is .none q a l)
 
-    pub cell-le : c ≤ end
+    cell-le : c ≤ end
     cell-le = omega (arith, found-is .top)
 
     pub block-cell : c < end → FindsCell h pages blocks start end (record { cell = c; reads = b - start / 4096 + 1 })

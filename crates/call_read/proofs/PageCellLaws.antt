@@ -13,20 +13,20 @@ use Rattle.words.proofs.CaseLaws.{both}
 use Rattle.words.proofs.FirstLaws.{first-eq, first-same}
 use Rattle.words.specs.Word.{bitAt, isSet, lowest, clearBit, count}
 use Rattle.words.proofs.BitLaws.{bit-lt, bit-none, bit-past, bit-and}
-use Rattle.words.proofs.ChangeLaws.{with-other, with-lt}
-use Rattle.words.proofs.CountLaws.{count-clear}
+use Rattle.words.proofs.ChangeLaws.{with-other}
 use Rattle.words.proofs.LowestLaws.{lowest-is, lowest-some}
+use Rattle.words.proofs.TakeLaws.{taken-held, rest-fits, rest-among, rest-fewer}
 use Rattle.page_base.specs.declared.PageWords.{PageWords}
 use Rattle.page_base.specs.Page.{wordsAt}
 use Rattle.block_search.specs.Search.{bitsWithin}
 use Rattle.block_search.proofs.SearchLaws.{bits-within-set}
 use Rattle.block_search.proofs.WalkLaws.{clear-in-range, lowest-lt, lowest-held, lowest-range}
-use Rattle.call_read.specs.Contracts.{isHeld, cellInPage, cellInBlock}
+use Rattle.call_read.specs.Contracts.{isLiveCell, cellInPage, cellInBlock}
 
 -- ---- one page
 
 -- a cell of page g is held if the page is live and the cell's bit is set
-held-at : (pages : List ℕ) (live g c : ℕ) → c < 64 → isHeld pages live (64 * g + c) ≡ (isSet live (g % 64) && isSet (wordsAt pages g .filled) c)
+held-at : (pages : List ℕ) (live g c : ℕ) → c < 64 → isLiveCell pages live (64 * g + c) ≡ (isSet live (g % 64) && isSet (wordsAt pages g .filled) c)
 held-at pages live g c l =
     let d : (64 * g + c) / 64 ≡ g = omega arith in
     let r : (64 * g + c) % 64 ≡ c = omega arith in
@@ -36,7 +36,7 @@ module _ (pages : List ℕ) (live g from : ℕ) (low : from < 64) where
   pub page-dead : bitAt live (g % 64) ≡ 0 → 64 ≡ cellInPage pages live g from
   unfolding cellInPage
   page-dead z =
-      first-eq (λ (c : ℕ). isHeld pages live (64 * g + c)) (64 - from) from 64 (record {
+      first-eq (λ (c : ℕ). isLiveCell pages live (64 * g + c)) (64 - from) from 64 (record {
         from = omega arith;
         top = omega arith;
         held = λ l. absurd (omega arith);
@@ -47,7 +47,7 @@ module _ (pages : List ℕ) (live g from : ℕ) (low : from < 64) where
   unfolding cellInPage lowest
   page-live n =
       let s = eq-eqb (bitAt live (g % 64)) 1 (omega (arith, n, bit-lt live (g % 64))) in
-      first-same (isSet (wordsAt pages g .filled)) (λ (c : ℕ). isHeld pages live (64 * g + c)) (64 - from) from
+      first-same (isSet (wordsAt pages g .filled)) (λ (c : ℕ). isLiveCell pages live (64 * g + c)) (64 - from) from
       (λ j a b. sym (held-at pages live g j (omega arith) ∙ rw s))
 
 -- ---- one block
@@ -67,14 +67,14 @@ pub record LeftPages (pages : List ℕ) (live b start end left : ℕ) : Type 0 w
   pub among : (i : ℕ) → bitAt left i ≡ 1 → bitAt live i ≡ 1
   pub low : (i : ℕ) → bitAt left i ≡ 1 → start / 64 ≤ 64 * b + i
   pub high : (i : ℕ) → bitAt left i ≡ 1 → 64 * b + i ≤ (end - 1) / 64
-  pub none : (q : ℕ) → start ≤ q → q < end → q / 4096 ≡ b → bitAt left (q / 64 % 64) ≡ 0 → isHeld pages live q ≡ false
+  pub none : (q : ℕ) → start ≤ q → q < end → q / 4096 ≡ b → bitAt left (q / 64 % 64) ≡ 0 → isLiveCell pages live q ≡ false
 
 module _ (pages : List ℕ) (live b start end : ℕ) (some : start < end) where
   abbrev P : ℕ → Bool
-  P q = eqb (q / 4096) b && isHeld pages live q
+  P q = eqb (q / 4096) b && isLiveCell pages live q
 
   -- not of the block, or not held
-  not-found : (q : ℕ) → (q / 4096 ≡ b → isHeld pages live q ≡ false) → (eqb (q / 4096) b && isHeld pages live q) ≡ false
+  not-found : (q : ℕ) → (q / 4096 ≡ b → isLiveCell pages live q ≡ false) → (eqb (q / 4096) b && isLiveCell pages live q) ≡ false
   not-found q n = elim (ℕ-discrete (q / 4096) b) [ yes e ↦ rw (n e) (and-false (eqb (q / 4096) b)) | no e ↦ rw (ne-eqb (q / 4096) b e) ]
 
   -- ---- the loop begins
@@ -128,19 +128,16 @@ module _ (pages : List ℕ) (live b start end : ℕ) (some : start < end) where
     page-below = lowest-some left (known .small) more
 
     page-left : bitAt left (lowest left 0) ≡ 1
-    page-left = lowest-is left 0 (omega arith) .held page-below
+    page-left = taken-held left (known .small) more
 
     pub page-in : (start / 64 ≤ 64 * b + lowest left 0) × (64 * b + lowest left 0 ≤ (end - 1) / 64)
     page-in = (known .low p page-left, known .high p page-left)
 
     kept : (i : ℕ) → bitAt (clearBit left (lowest left 0)) i ≡ 1 → bitAt left i ≡ 1
-    kept i e = elim (ℕ-discrete i p) [
-      | yes d ↦ ap (bitAt left) d ∙ page-left
-      | no d ↦ sym (with-other left p 0 i (omega arith) d) ∙ e
-    ]
+    kept = rest-among left (known .small) more
 
     -- a cell of the range in the page whose bit is clear
-    unset : (q : ℕ) → start ≤ q → q < end → q / 64 ≡ 64 * b + lowest left 0 → bitAt (filledIn pages start end (64 * b + lowest left 0)) (q % 64) ≡ 0 → isHeld pages live q ≡ false
+    unset : (q : ℕ) → start ≤ q → q < end → q / 64 ≡ 64 * b + lowest left 0 → bitAt (filledIn pages start end (64 * b + lowest left 0)) (q % 64) ≡ 0 → isLiveCell pages live q ≡ false
     unset q a l d z =
         let u = clear-in-range start end (wordsAt pages (q / 64) .filled) q a l (ap (λ (x : ℕ). bitAt (filledIn pages start end x) (q % 64)) d ∙ z) in
         rw (ne-eqb (bitAt (wordsAt pages (q / 64) .filled) (q % 64)) 1 (λ e. omega (arith, e, u))) (and-false (isSet live (q / 64 % 64)))
@@ -148,7 +145,7 @@ module _ (pages : List ℕ) (live b start end : ℕ) (some : start < end) where
     -- the page has none in the range
     pub goes-on : filledIn pages start end (64 * b + lowest left 0) ≡ 0 → LeftPages pages live b start end (clearBit left (lowest left 0))
     goes-on e = record {
-      small = with-lt 64 left p 0 (known .small) page-below (omega arith);
+      small = rest-fits left (known .small) more;
       among = λ i k. known .among i (kept i k);
       low = λ i k. known .low i (kept i k);
       high = λ i k. known .high i (kept i k);
@@ -159,7 +156,7 @@ module _ (pages : List ℕ) (live b start end : ℕ) (some : start < end) where
     }
 
     pub fewer : count (clearBit left (lowest left 0)) < count left
-    fewer = let c = count-clear 64 left p page-below page-left in omega (arith, c)
+    fewer = rest-fewer left (known .small) more
 
     -- it has one
     module _ (fits : wordsAt pages (64 * b + lowest left 0) .filled < 2 ^ 64) (used : filledIn pages start end (64 * b + lowest left 0) ≡ 0 → ⊥) where

@@ -34,16 +34,16 @@ abbrev pub enteredAt : List ℕ → (retiredBlocks b reads : ℕ) → Entered
 enteredAt blocks retiredBlocks b reads = record { live = selectedPages blocks retiredBlocks b Live; reads = reads + 1 }
 
 -- cell q is in use, and its page is in the word of the live pages of its block
-abbrev pub isHeld : List ℕ → (live q : ℕ) → Bool
-isHeld pages live q = isSet live (q / 64 % 64) && isSet (wordsAt pages (q / 64) .filled) (q % 64)
+abbrev pub isLiveCell : List ℕ → (live q : ℕ) → Bool
+isLiveCell pages live q = isSet live (q / 64 % 64) && isSet (wordsAt pages (q / 64) .filled) (q % 64)
 
 -- the first such cell of page g from its cell `from` on, counted from 0 in the page; 64 if there is none
 unfoldable pub cellInPage : List ℕ → (live g from : ℕ) → ℕ
-cellInPage pages live g from = firstFrom (λ (c : ℕ). isHeld pages live (64 * g + c)) (64 - from) from
+cellInPage pages live g from = firstFrom (λ (c : ℕ). isLiveCell pages live (64 * g + c)) (64 - from) from
 
 -- the first such cell of block b from start up to end; end if there is none
 unfoldable pub cellInBlock : List ℕ → (live b start end : ℕ) → ℕ
-cellInBlock pages live b start end = firstFrom (λ (q : ℕ). eqb (q / 4096) b && isHeld pages live q) (end - start) start
+cellInBlock pages live b start end = firstFrom (λ (q : ℕ). eqb (q / 4096) b && isLiveCell pages live q) (end - start) start
 
 -- the next reachable cell; the reads are counted right on every state, for the cell that was found
 pub record FindsCell (h : AdaptiveReceiverPacketWindow) (pages blocks : List ℕ) (start end : ℕ) (r : NextCell) : Type 0 where

@@ -89,7 +89,7 @@ loop-again c =
       omega (arith, i .0),
       omega (arith, c .before .if2 .left),
       c .enter-block .ensures ∙ ap (enteredAt (s .args .blocks .now) (s .args .w .«retired_blocks») (l .loop .block + 1)) e,
-      none-next (s .args .w) _ _ _ _ (s .pre .0 .1) (s .pre .0 .2) _ _ (i .0) (i .3) (cell-is g) (omega (arith, c .before .before .if1 .left)),
+      none-next (s .args .w) _ _ _ _ (s .pre .0 .1) (s .pre .0 .2) _ _ (i .3) (cell-is g) (omega (arith, c .before .before .if1 .left)),
     )
 
 returns : tie.Need-returns Inv-loop μ-loop
@@ -98,7 +98,7 @@ returns c =
     let l = g .before in
     let s = l .before .before .before in
     subst (λ (k : ℕ). FindsCell (s .args .w) (s .args .pages .now) (s .args .blocks .now) (s .args .start) (s .args .end) (record { cell = g .cell-in-block .result; reads = k })) (sym (reads-are l))
-    (block-cell (s .args .w) _ _ _ _ (s .pre .0 .1) (s .pre .0 .2) _ _ (l .loop .inv .0) (l .loop .inv .3) (cell-is g) (c .if1 .taken))
+    (block-cell (s .args .w) _ _ _ _ (s .pre .0 .1) (s .pre .0 .2) _ _ (l .loop .inv .3) (cell-is g) (c .if1 .taken))
 
 returns-2 : tie.Need-returns-2 Inv-loop μ-loop
 returns-2 c =
@@ -106,7 +106,7 @@ returns-2 c =
     let l = g .before in
     let s = l .before .before .before in
     subst (λ (k : ℕ). FindsCell (s .args .w) (s .args .pages .now) (s .args .blocks .now) (s .args .start) (s .args .end) (record { cell = s .args .end; reads = k })) (sym (reads-are l))
-    (block-end (s .args .w) _ _ _ _ (s .pre .0 .1) (s .pre .0 .2) _ _ (l .loop .inv .0) (l .loop .inv .3) (cell-is g) (omega (arith, c .before .if1 .left)) (omega (arith, c .if2 .taken, l .loop .inv .1)))
+    (block-end (s .args .w) _ _ _ _ (s .pre .0 .1) (s .pre .0 .2) _ _ (l .loop .inv .3) (cell-is g) (omega (arith, c .before .if1 .left)) (omega (arith, c .if2 .taken, l .loop .inv .1)))
 
 pub walk-blocks-spec : {M : Type 1} → statement M
 walk-blocks-spec =
