@@ -114,8 +114,8 @@ static void receive(uint32_t sequence)
         is_out[store] = 1;
         comes_back(answer.first);
         break;
-    default: /* refused: the store is still ours */
-        if (answer.first != PACKET_WINDOW_REFUSED_OCCUPIED)
+    default: /* refused, as too early or as no sequence: the store is still ours */
+        if (answer.first != PACKET_WINDOW_REFUSED_OCCUPIED && answer.first != PACKET_WINDOW_REFUSED_SEQUENCE)
             fail("insert refused", answer.first);
         break;
     }
@@ -194,6 +194,7 @@ int main(void)
     }
     receive(sequence_of(0));                                   /* sent twice */
     receive(sequence_of(PACKET_WINDOW_CAPACITY(WINDOW_SIZE))); /* too early: packet 0 has its position */
+    receive(sequence_of(70) | 0x80000000u);                    /* the top bit of its number is set: it is no sequence */
     report("received, of packets", PACKETS);
 
     for (i = 0; deliver(); i++)

@@ -6,6 +6,10 @@
  * The window holds packets by sequence number. A value is a 32-bit number of the caller's choice, here the number of a packet store.
  * A sequence's position is its remainder by the capacity; at most one value is live at a position.
  *
+ * SEQUENCES. A sequence number has 31 bits, as on the wire: 0 to 2147483647, and 2147483647 is followed by 0. A number with the top bit
+ * set is none: every call that takes a sequence, a first or a last refuses it 10, packet_window_set_base refuses it 9. So the first word
+ * of a data packet may be handed over as it came (in host order), and one whose reserved top bit is set is turned away.
+ *
  * MEMORY. The library allocates nothing, keeps no pointer and has no variables of its own; it needs memcpy and memset. A window is a
  * header and four lists that the caller lends to each call:
  *
@@ -60,9 +64,9 @@
  * UNSOUND STATES. A state that came from packet_window_new and from calls alone is sound: each call keeps it so. If other code, or a
  * fault of the memory, wrote the header or the lists, the state may be unsound. packet_window_check says whether it is; it cannot see a
  * change that leaves a sound state, such as another value in a cell. On an unsound state every other call still ends, stays inside the
- * lists, writes nothing past their named lengths and nothing past `count` in the return list, and refuses 5, 6, 8 and 9 as always.
- * Beyond that its answer (4 included), the header and the lists are free. It may be refused 7, with a count of values that it has handed
- * back.
+ * lists, writes nothing past their named lengths and nothing past `count` in the return list, and refuses 5, 6, 8, 9 and 10 as
+ * always. Beyond that its answer (4 included), the header and the lists are free. It may be refused 7, with a count of values that it has
+ * handed back.
  */
 #ifndef PACKET_WINDOW_H
 #define PACKET_WINDOW_H
@@ -76,8 +80,8 @@ extern "C" {
 
 /* ---- version */
 
-/* 10000 * major + 100 * minor + patch: 0.3.0. CHANGELOG.md says what each version changed. */
-#define PACKET_WINDOW_VERSION 300u
+/* 10000 * major + 100 * minor + patch: 0.4.0. CHANGELOG.md says what each version changed. */
+#define PACKET_WINDOW_VERSION 400u
 
 /*
  * The version of the library that is linked. Compare it with PACKET_WINDOW_VERSION once, before the first call: with another version the
@@ -191,7 +195,9 @@ enum packet_window_refusal {
     /* packet_window_release_retired, packet_window_clear_bounded: the number is above 256. */
     PACKET_WINDOW_REFUSED_BUDGET = 8,
     /* packet_window_set_base: a base of 2147483648 or more. */
-    PACKET_WINDOW_REFUSED_BASE = 9
+    PACKET_WINDOW_REFUSED_BASE = 9,
+    /* Every call that takes a sequence, a first or a last: it is 2147483648 or more. */
+    PACKET_WINDOW_REFUSED_SEQUENCE = 10
 };
 
 typedef struct packet_window_answer {
@@ -236,8 +242,8 @@ packet_window_step packet_window_new(
  * Puts a value at a sequence. If the page of its position is retired, the retired values of that page are handed back first, in the
  * return list.
  * Writes all lists.
- * Answers: PACKET_WINDOW_NEW, or PACKET_WINDOW_REPLACED with the old value; count values in the return list. Refused: 6, 4; the value
- * then stays with the caller.
+ * Answers: PACKET_WINDOW_NEW, or PACKET_WINDOW_REPLACED with the old value; count values in the return list. Refused: 6, 10, 4; the
+ * value then stays with the caller.
  */
 packet_window_step packet_window_insert(
     packet_window_header w,
@@ -249,7 +255,7 @@ packet_window_step packet_window_insert(
 /*
  * The value of a sequence. It stays in the window.
  * Writes nothing.
- * Answers: PACKET_WINDOW_FOUND with the value, or PACKET_WINDOW_ABSENT. Refused: 6.
+ * Answers: PACKET_WINDOW_FOUND with the value, or PACKET_WINDOW_ABSENT. Refused: 6, 10.
  */
 packet_window_step packet_window_get(
     packet_window_header w,
@@ -261,7 +267,7 @@ packet_window_step packet_window_get(
  * Puts a value in place of the one that the sequence has.
  * Writes values.
  * Answers: PACKET_WINDOW_FOUND with the old value, handed back; or PACKET_WINDOW_ABSENT, and the new value stays with the caller.
- * Refused: 6.
+ * Refused: 6, 10.
  */
 packet_window_step packet_window_exchange(
     packet_window_header w,
@@ -272,7 +278,7 @@ packet_window_step packet_window_exchange(
 /*
  * Removes the value of a sequence.
  * Writes sequences, values, pages, blocks.
- * Answers: PACKET_WINDOW_FOUND with the value, handed back; or PACKET_WINDOW_ABSENT. Refused: 6.
+ * Answers: PACKET_WINDOW_FOUND with the value, handed back; or PACKET_WINDOW_ABSENT. Refused: 6, 10.
  */
 packet_window_step packet_window_remove(
     packet_window_header w,
@@ -309,7 +315,7 @@ packet_window_step packet_window_take_front(
  * The first live sequence by position, from the position after the given sequence's, round the capacity, to its own last of all. The
  * sequence found may lie outside the caller's range, since the search goes by position.
  * Writes nothing.
- * Answers: PACKET_WINDOW_FOUND with the sequence, or PACKET_WINDOW_ABSENT if none is live. Refused: 6.
+ * Answers: PACKET_WINDOW_FOUND with the sequence, or PACKET_WINDOW_ABSENT if none is live. Refused: 6, 10.
  */
 packet_window_step packet_window_successor_after(
     packet_window_header w,
@@ -348,7 +354,7 @@ packet_window_step packet_window_iter(
  * 256. What is not handed back by this call stays retired.
  * Writes all lists.
  * Answers: PACKET_WINDOW_FOUND with the number of values that were live; count values in the return list, more or fewer than these.
- * Refused: 6, 5.
+ * Refused: 6, 10, 5.
  */
 packet_window_step packet_window_remove_range(
     packet_window_header w,
@@ -399,9 +405,9 @@ packet_window_step packet_window_clear_bounded(
 /* ---- audits */
 
 /*
- * A live pair at a position of first to last that is none of the range's sequences, or whose sequence has its top bit set.
+ * A live pair at a position of first to last whose sequence is none of the range's.
  * Writes nothing.
- * Answers: PACKET_WINDOW_PAIR with sequence and value, or PACKET_WINDOW_ABSENT exactly if there is none. Refused: 6, 5.
+ * Answers: PACKET_WINDOW_PAIR with sequence and value, or PACKET_WINDOW_ABSENT exactly if there is none. Refused: 6, 10, 5.
  */
 packet_window_step packet_window_stranger(
     packet_window_header w,

@@ -147,8 +147,8 @@ class Table:
 
     def stranger(self, first, last):
         """`stranger`: some live pair at a position of first..last whose
-        sequence's distance from first (as in count, less 1) is count or more,
-        or whose top bit is set; none exactly if there is none.
+        sequence's distance from first (as in count, less 1) is count or more;
+        none exactly if there is none.
 
         Not in the table: which pair stranger gives. So this gives the set of
         all right answers."""
@@ -158,7 +158,7 @@ class Table:
         found = set()
         for position in self.held_in(first, last):
             sequence = self.pairs[position][0]
-            if count_of(first, sequence) - 1 >= count or sequence >= 2 ** 31:
+            if count_of(first, sequence) - 1 >= count:
                 found.add('%d' % sequence)
         return found or {ABSENT}
 
@@ -242,6 +242,10 @@ CALLS = {'i': Table.insert, 'g': Table.get, 'r': Table.remove,
          'd': Table.remove_range, 'q': Table.stranger, 'b': Table.clear_bounded,
          'v': Table.release_retired, 'c': Table.clear, 'l': Table.iter,
          'a': Table.set_base, 't': Table.take_front}
+
+
+# The fields of a letter that are a sequence, first or last, from the first on.
+SEQUENCES = {'i': 1, 'g': 1, 'r': 1, 's': 1, 'f': 1, 'e': 1, 'd': 2, 'q': 2}
 
 
 def number(field, limit=MAX_NUMBER):
@@ -336,6 +340,10 @@ class Comparison:
                 self.begun = True
                 self.start(Table(numbers[0]))
             return refusal or NOTHING
+        if any(number >= 2 ** 31 for number in numbers[:SEQUENCES.get(letter, 0)]):
+            # 10, a sequence, first or last of 2147483648 or more, after 6 and
+            # before 4, 5 and 8.
+            return {refuse(10)} if letter == 'q' else refuse(10)
         expected = CALLS[letter](self.table, *numbers)
         if self.table.emptied:
             self.retired.update(map(str, self.table.emptied))

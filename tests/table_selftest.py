@@ -75,6 +75,7 @@ v 257
 b 257
 v 0
 d 2147483653 5
+d 5 5
 c
 '''), tabbed('''
 n !1 0 0 0 0
@@ -104,6 +105,7 @@ l 1 1 0 0 0 5:54
 v !8 1 0 0 0
 b !8 1 0 0 0
 v 0:0 1 0 0 0
+d !10 1 0 0 0
 d 1 0 0 0 0 54
 c . 0 0 0 0
 '''))
@@ -147,9 +149,9 @@ l 1 1 0 0 0 4:10
 FRONT = (tabbed('''
 n 64 1 0
 t
-i 2147483648 7
+i 64 7
 t
-r 2147483648
+r 64
 i 2147483647 1
 i 0 2
 a 2147483648
@@ -186,11 +188,42 @@ a . 0 0 1 0
 t - 0 0 1 0
 '''))
 
+# Document 02, S-3: a number with its top bit set, in every call that takes a sequence.
+WIRE = (tabbed('''
+n 64 1 0
+i 5 50
+i 2147483653 51
+g 2147483653
+e 2147483653 51
+r 2147483653
+s 2147483653
+f 2147483653
+d 5 2147483653
+q 5 2147483653
+d 2147483648 2147483647
+i 2147483647 52
+r 2147483647
+'''), tabbed('''
+n . 0 0 0 0
+i + 1 0 0 0
+i !10 1 0 0 0
+g !10 1 0 0 0
+e !10 1 0 0 0
+r !10 1 0 0 0
+s !10 1 0 0 0
+f !10 1 0 0 0
+d !10 1 0 0 0
+q !10 1 0 0 0
+d !10 1 0 0 0
+i + 2 0 1 0
+r 52 1 0 1 0
+'''))
+
 # Document 01, section 'Edge cases': the starred cases of ranges and searches.
 RANGES = (tabbed('''
 n 64 1 0
 i 5 1
-i 2147483653 2
+i 69 2
 d 0 64
 d 5 4
 d 0 63
@@ -247,7 +280,7 @@ PARSE = (['g\t5', 'n\t0\t1\t0', 'l', '', 'n\t64\t1\t0', 'n\t4097\t64\t99', 'x', 
           'l\t', 'c\r', 'g\t05', 'g\t00', 'g\t', 'g\t4294967296', 'g\t99999999999999999999999', 'g\t+5',
           'g\t-1', 'g\t5 ', ' g\t5', 'G\t5', 'gg\t5', 'g 5', '\tg\t5', 'g\t\u0665', 'g\t4294967295', 'g\t0'],
          ['?', 'n\t!1\t0\t0\t0\t0', '?', '?', 'n\t.\t0\t0\t0\t0'] + ['?'] * 20
-         + ['g\t-\t0\t0\t0\t0'] * 2)
+         + ['g\t!10\t0\t0\t0\t0', 'g\t-\t0\t0\t0\t0'])
 
 # (what is wrong, the right files, the number of the line, the wrong line or
 # None for a line left out)
@@ -306,7 +339,8 @@ WRONG = [
     ('budget 257 taken by release_retired', POINTS, 25, 'v 0:0 1 0 0 0'),
     ('257 taken by clear_bounded', POINTS, 26, 'b 1 0 0 0 0 54'),
     ('units made up with nothing held', POINTS, 27, 'v 0:1 1 0 0 0'),
-    ('all 32 bits used for a range', POINTS, 28, 'd !5 1 0 0 0'),
+    ('5 before 10', POINTS, 28, 'd !5 1 0 0 0'),
+    ('a first with its top bit set taken', POINTS, 28, 'd 1 0 0 0 0 54'),
     ('a retired pair in l', RELEASE, 6, 'l 1 0 3 0 0 64:8'),
     ('a release that does nothing', RELEASE, 8, 'v 0:3 0 3 0 0'),
     ('too few units while values are held', RELEASE, 8, 'v 2:2 0 1 0 0 7 7'),
@@ -320,7 +354,7 @@ WRONG = [
     ('clear_bounded releases above its number', RELEASE, 5, 'b 1 0 2 0 0 7'),
     ('clear_bounded counts one too many', RELEASE, 11, 'b 2 0 0 0 0 9'),
     ('an insert keeps a store that its count gives', RELEASE, 14, 'i + 1 0 0 0'),
-    ('a position told from all 32 bits', RANGES, 3, 'i + 2 0 0 0'),
+    ('a position told from the whole sequence', RANGES, 3, 'i + 2 0 0 0'),
     ('a range above window_size emptied', RANGES, 4, 'd 1 0 0 0 0 1'),
     ('a range backwards taken', RANGES, 5, 'd 0 1 0 0 0'),
     ('a range of window_size refused', RANGES, 6, 'd !5 1 0 0 0'),
@@ -341,6 +375,18 @@ WRONG = [
     ('a front told as done', FRONT, 17, 't . 0 0 1 0'),
     ('a base that moves without a value', FRONT, 17, 't - 1 0 1 0'),
     ('a front taken twice', FRONT, 19, 't 4 0 0 1 0'),
+    ('4 before 10', WIRE, 3, 'i !4 1 0 0 0'),
+    ('a top bit that get does not see', WIRE, 4, 'g 50 1 0 0 0'),
+    ('a number with its top bit set told as absent by get', WIRE, 4, 'g - 1 0 0 0'),
+    ('the same by exchange', WIRE, 5, 'e - 1 0 0 0'),
+    ('the same by remove', WIRE, 6, 'r - 1 0 0 0'),
+    ('a top bit that remove does not see', WIRE, 6, 'r 50 0 0 0 0'),
+    ('the same by successor_after', WIRE, 7, 's 5 1 0 0 0'),
+    ('the same by first_from', WIRE, 8, 'f 5 1 0 0 0'),
+    ('a last with its top bit set taken by remove_range', WIRE, 9, 'd 1 0 0 0 0 50'),
+    ('a last with its top bit set taken by stranger', WIRE, 10, 'q - 1 0 0 0'),
+    ('5 before 10 where both hold', WIRE, 11, 'd !5 1 0 0 0'),
+    ('2147483647 refused', WIRE, 12, 'i !10 1 0 0 0'),
     ('an answer before an accepted n', PARSE, 1, 'g - 0 0 0 0'),
     ('a refused n taken as a window', PARSE, 3, 'l 0 0 0 0 0'),
     ('an empty line left unanswered', PARSE, 4, None),
@@ -349,6 +395,7 @@ WRONG = [
     ('a carriage return taken', PARSE, 11, 'c . 0 0 0 0'),
     ('a leading zero taken', PARSE, 12, 'g - 0 0 0 0'),
     ('4294967296 taken', PARSE, 15, 'g - 0 0 0 0'),
+    ('4294967295 no number', PARSE, 26, '?'),
     ('? with more behind it', PARSE, 7, '? 0 0 0 0'),
     ('? for the largest number', PARSE, 26, '?'),
 ]

@@ -41,7 +41,7 @@ import sys
 ROOT = os.path.dirname(os.path.dirname(os.path.abspath(__file__)))
 PAPERS = [os.path.join(ROOT, '..', 'shared', 'docs', name) for name in ('00-demands.md', '01-scope.md', '02-change-requests.md')]
 TRACE = os.path.join(ROOT, 'docs', 'TRACE.md')
-STATES = ('open', 'held', 'partly', 'told', 'informs')
+STATES = ('open', 'held', 'partly', 'told', 'changed', 'informs')
 WALKS = os.path.join(ROOT, 'docs', 'ADDING.md')
 # what the walks of docs/ADDING.md add in their example, or leave open
 EXAMPLES = ('first_live', 'NAME', 'S-NN')

@@ -20,6 +20,13 @@ const LARGEST_LINE_WINDOW: u32 = 4096;
 const LARGEST_SMALL_WINDOW: u32 = 512;
 /// Sequences remembered in one list.
 const REMEMBERED: usize = 128;
+/// Of so many calls, one comes with a number of more than 31 bits too.
+const WIDE: u32 = 25;
+
+/// The lowest 31 bits: a sequence as on the wire.
+fn wire(number: u32) -> u32 {
+    number & (HALF - 1)
+}
 
 /// splitmix64.
 pub struct Random(u64);
@@ -314,16 +321,41 @@ impl Generator {
         unreachable!("the rest is below the sum of the weights")
     }
 
+    /// A call, its sequences in 31 bits. One in `WIDE` comes twice: before it
+    /// the same call with a number that has its top bit set, which is refused
+    /// and alters nothing.
     fn call(&mut self, call: Call) {
+        let call = call.map_sequences(wire);
+        if self.random.below(WIDE) == 0 {
+            let wide = self.wide(call);
+            if wide != call {
+                self.pending.push_back(Item::Call(wide));
+            }
+        }
         self.pending.push_back(Item::Call(call));
+    }
+
+    /// The call with the top bit of its sequence set; of its first, its last
+    /// or both.
+    fn wide(&mut self, call: Call) -> Call {
+        let last_alone = match call {
+            Call::RemoveRange { .. } | Call::Stranger { .. } => self.random.percent(40),
+            _ => false,
+        };
+        let mut bits = match last_alone {
+            true => [0, HALF],
+            false => [HALF, self.random.pick(&[0, HALF])],
+        }
+        .into_iter();
+        call.map_sequences(|number| number | bits.next().unwrap_or(0))
     }
 
     // Sequences and values.
 
-    /// Near 0, 2^31 or 2^32, or anywhere.
+    /// Near 0, before 2^31, where sequences wrap, or anywhere.
     fn region(&mut self) -> u32 {
         let before = self.random.below(200);
-        let edge = self.random.pick(&[0, HALF, 0, HALF, PAGE, BLOCK]);
+        let edge = self.random.pick(&[0, 0, 0, 0, PAGE, BLOCK]);
         match self.random.below(6) {
             0 => self.random.any(),
             1 => edge.wrapping_add(before),
@@ -371,7 +403,7 @@ impl Generator {
     /// Another sequence at the same position.
     fn alias_of(&mut self, sequence: u32) -> u32 {
         match self.random.below(4) {
-            0 => sequence ^ HALF,
+            0 => sequence ^ (HALF >> 1),
             1 => sequence.wrapping_sub(self.capacity),
             2 => sequence.wrapping_add(self.capacity * self.random.between(1, 5)),
             _ => sequence.wrapping_add(self.capacity),
@@ -396,13 +428,13 @@ impl Generator {
 
     fn insert(&mut self, sequence: u32) {
         let value = self.value();
-        self.present.add(sequence);
+        self.present.add(wire(sequence));
         self.call(Call::Insert { sequence, value });
     }
 
     fn remove(&mut self, sequence: u32) {
         self.call(Call::Remove(sequence));
-        self.forget(|held| held == sequence);
+        self.forget(|held| held == wire(sequence));
     }
 
     fn remove_range(&mut self, first: u32, last: u32) {
@@ -583,7 +615,11 @@ impl Generator {
                 (first, first.wrapping_add(count - 1))
             }
         };
-        Call::Stranger { first, last }
+        let call = Call::Stranger { first, last }.map_sequences(wire);
+        match self.random.below(WIDE) {
+            0 => self.wide(call),
+            _ => call,
+        }
     }
 
     fn range(&mut self) {
@@ -625,12 +661,7 @@ impl Generator {
             0 => count,
             _ => count.min(self.window_size.wrapping_add(1)),
         };
-        let last = first.wrapping_add(count).wrapping_sub(1);
-        // The top bit of the distance does not count.
-        match self.random.below(12) {
-            0 => (first, last ^ HALF),
-            _ => (first, last),
-        }
+        (first, first.wrapping_add(count).wrapping_sub(1))
     }
 
     /// What a receiver does at its base.
@@ -658,10 +689,7 @@ impl Generator {
     /// were, near 2^31, before the last one, away from all values; or a number
     /// that is refused.
     fn some_base(&mut self) -> u32 {
-        let known = match self.known() {
-            high if high >= HALF => self.known(),
-            known => known,
-        };
+        let known = self.known();
         let base = match self.random.below(14) {
             0 => HALF - self.random.between(1, 80),
             1 => 0,
@@ -674,7 +702,7 @@ impl Generator {
             8 | 9 => return self.random.pick(&[HALF, HALF + 1, u32::MAX, known | HALF]),
             _ => known,
         };
-        base & (HALF - 1)
+        wire(base)
     }
 
     fn set_base(&mut self, base: u32) {
@@ -686,7 +714,7 @@ impl Generator {
 
     /// The sequence so many after the base, in 31-bit circular order.
     fn after_base(&self, steps: u32) -> u32 {
-        self.base.wrapping_add(steps) & (HALF - 1)
+        wire(self.base.wrapping_add(steps))
     }
 
     /// In order from the base, in a third of the cases with one hole that is
@@ -823,7 +851,7 @@ impl Generator {
                 }
                 7 => self.search(),
                 8 => {
-                    self.set_base(former & (HALF - 1));
+                    self.set_base(wire(former));
                     self.take_front();
                 }
                 _ => {

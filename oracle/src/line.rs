@@ -131,6 +131,45 @@ impl Call {
         }
     }
 
+    /// The call with another number in place of each sequence, first and last.
+    /// A base is none of these.
+    pub fn map_sequences(self, mut other: impl FnMut(u32) -> u32) -> Self {
+        match self {
+            Self::Insert { sequence, value } => Self::Insert {
+                sequence: other(sequence),
+                value,
+            },
+            Self::Exchange { sequence, value } => Self::Exchange {
+                sequence: other(sequence),
+                value,
+            },
+            Self::Get(sequence) => Self::Get(other(sequence)),
+            Self::Remove(sequence) => Self::Remove(other(sequence)),
+            Self::SuccessorAfter(sequence) => Self::SuccessorAfter(other(sequence)),
+            Self::FirstFrom(sequence) => Self::FirstFrom(other(sequence)),
+            Self::RemoveRange { first, last } => Self::RemoveRange {
+                first: other(first),
+                last: other(last),
+            },
+            Self::Stranger { first, last } => Self::Stranger {
+                first: other(first),
+                last: other(last),
+            },
+            Self::New { .. }
+            | Self::ClearBounded(_)
+            | Self::ReleaseRetired(_)
+            | Self::Clear
+            | Self::Iter
+            | Self::SetBase(_)
+            | Self::TakeFront => self,
+        }
+    }
+
+    /// Whether a sequence, first or last is 2147483648 or more.
+    pub fn has_wide_sequence(self) -> bool {
+        self.map_sequences(|number| number & (u32::MAX >> 1)) != self
+    }
+
     /// The line of this call, without its line feed.
     pub fn line(&self) -> String {
         let mut line = String::from(self.letter());

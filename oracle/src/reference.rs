@@ -2,8 +2,9 @@
 //!
 //! The source takes N as a const parameter; a trait object hides it, with one
 //! instance for each N from 1 to 63. What the source lacks or answers with a
-//! panic is worked out here: refusals 1, 2, 3, 8 and 9, the units of
-//! release_retired, stranger, the base and its point.
+//! panic is worked out here: refusals 1, 2, 3, 8, 9 and 10, the units of
+//! release_retired, stranger, the base and its point. The source takes
+//! sequences of 32 bits; it is asked for those of 31 alone.
 
 use crate::line::Call;
 use crate::value::{take_dropped, Value};
@@ -63,6 +64,9 @@ struct Based<const N: usize> {
 
 impl<const N: usize> Window for Based<N> {
     fn call(&mut self, call: Call) -> Answer {
+        if call.has_wide_sequence() {
+            return Answer::Refused(10);
+        }
         let window = &mut self.window;
         match call {
             Call::New { .. } => unreachable!("new makes a window, it is no call on one"),
@@ -210,7 +214,7 @@ fn release_retired<const N: usize>(window: &mut Source<N>, budget: u32) -> Answe
 
 /// The first stranger by position from that of `first`, round the capacity:
 /// a live pair at a position of the range whose sequence is not one of the
-/// range, or whose top bit is set.
+/// range.
 fn stranger<const N: usize>(window: &Source<N>, first: u32, last: u32) -> Answer {
     let reach = last.wrapping_sub(first) & DISTANCE_MASK;
     if reach >= window.window_size() {
@@ -218,9 +222,7 @@ fn stranger<const N: usize>(window: &Source<N>, first: u32, last: u32) -> Answer
     }
     let position_mask = window.capacity() as u32 - 1;
     let offset = |sequence: u32| sequence.wrapping_sub(first) & position_mask;
-    let outside = |sequence: u32| {
-        sequence.wrapping_sub(first) & DISTANCE_MASK > reach || sequence & TOP_BIT != 0
-    };
+    let outside = |sequence: u32| sequence.wrapping_sub(first) & DISTANCE_MASK > reach;
     live_pairs(window)
         .into_iter()
         .filter(|&(sequence, _)| offset(sequence) <= reach && outside(sequence))

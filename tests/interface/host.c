@@ -114,7 +114,7 @@ static int right_point(void)
 
 static int call(void)
 {
-    uint32_t sequence = below(WINDOW_SIZE + 4000);
+    uint32_t sequence = below(WINDOW_SIZE + 4000) | (below(40) == 0 ? 0x80000000u : 0);
     size_t places = PACKET_WINDOW_RETURN_PLACES - (below(50) == 0);
     switch (below(20)) {
     case 0:
@@ -153,7 +153,8 @@ int main(void)
     }
     if (!given[PACKET_WINDOW_NEW] || !given[PACKET_WINDOW_REPLACED] || !given[PACKET_WINDOW_ABSENT] || !given[PACKET_WINDOW_FOUND] ||
         !given[PACKET_WINDOW_RELEASED] || !refused[PACKET_WINDOW_REFUSED_OCCUPIED] || !refused[PACKET_WINDOW_REFUSED_SHORT_MEMORY] ||
-        !refused[PACKET_WINDOW_REFUSED_BUDGET] || !refused[PACKET_WINDOW_REFUSED_BASE] || furthest < 10) {
+        !refused[PACKET_WINDOW_REFUSED_BUDGET] || !refused[PACKET_WINDOW_REFUSED_BASE] || !refused[PACKET_WINDOW_REFUSED_SEQUENCE] ||
+        furthest < 10) {
         printf("an answer was never given\n");
         return 1;
     }

@@ -78,6 +78,16 @@ fn sequence_of_another_page(random: &mut Random, state: &mut State) -> Option<()
     Some(())
 }
 
+/// The top bit of a sequence in use, in a page that is retired or in one that is not.
+fn sequence_of_32_bits(random: &mut Random, state: &mut State) -> Option<()> {
+    let retired = random.percent(50);
+    let page = page_where(random, state, |state, page| state.occupied(page) != 0 && state.retired(page) == retired)?;
+    let filled = state.filled(page);
+    let cell = 64 * page + bit_where(random, filled, true)?;
+    state.sequences[cell] |= HALF;
+    Some(())
+}
+
 /// A value of a sparse page in a cell from N on.
 fn cell_past_n(random: &mut Random, state: &mut State) -> Option<()> {
     let page = page_where(random, state, |state, page| state.kind(page) == 1)?;
@@ -219,13 +229,14 @@ fn any_sequence(random: &mut Random, state: &mut State) -> Option<()> {
 
 type Damage = fn(&mut Random, &mut State) -> Option<()>;
 
-const DAMAGES: [Damage; 25] = [
+const DAMAGES: [Damage; 26] = [
     kind_3,
     kind_0_with_values,
     kind_1_without_a_value,
     another_position_named,
     one_position_twice,
     sequence_of_another_page,
+    sequence_of_32_bits,
     cell_past_n,
     dense_cells_exchanged,
     demote_at_of_n,

@@ -1,4 +1,4 @@
-//! Document 01's sentence on `check` and document 02's on the base, clause by clause, over a header and its lent lists.
+//! Document 01's sentence on `check` and document 02's on the base and on sequences, clause by clause, over a header and its lent lists.
 
 use crate::declared::Header;
 use std::collections::BTreeSet;
@@ -22,6 +22,7 @@ pub enum Clause {
     OccupiedNamesTheFilled,
     EachOnce,
     OfThisPage,
+    SequencesHave31Bits,
     SparseFillsTheFirstN,
     DenseByPosition,
     LiveDenseAboveDemoteAt,
@@ -39,13 +40,14 @@ pub enum Clause {
     PointIsRight,
 }
 
-pub const CLAUSES: [Clause; 21] = [
+pub const CLAUSES: [Clause; 22] = [
     Clause::Kinds,
     Clause::NoneIsEmpty,
     Clause::OthersAreOccupied,
     Clause::OccupiedNamesTheFilled,
     Clause::EachOnce,
     Clause::OfThisPage,
+    Clause::SequencesHave31Bits,
     Clause::SparseFillsTheFirstN,
     Clause::DenseByPosition,
     Clause::LiveDenseAboveDemoteAt,
@@ -145,6 +147,7 @@ impl State {
             fails(Clause::EachOnce, !bit(named, slot));
             named |= 1 << slot;
             fails(Clause::OfThisPage, sequence(cell) % self.capacity() / 64 == page);
+            fails(Clause::SequencesHave31Bits, sequence(cell) < HALF as usize);
             fails(Clause::SparseFillsTheFirstN, kind != 1 || cell < self.header.n as usize);
             fails(Clause::DenseByPosition, kind != 2 || slot == cell);
         }

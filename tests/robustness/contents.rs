@@ -66,15 +66,16 @@ fn fill_header(random: &mut Random, memory: &mut Memory, kind: Kind) {
     *demote_at = random.below(*n + 1);
 }
 
-/// The lists' words of one kind. Most page kinds are small, half of the time the sequences stand at their own positions, and half of the
-/// time the base is one of them, so that a call goes on past its first look.
+/// The lists' words of one kind. Most page kinds are small; each half of the time the sequences stand at their own positions, have 31
+/// bits, and the base is one of them, so that a call goes on past its first look.
 pub fn fill(random: &mut Random, memory: &mut Memory, kind: Kind) {
     fill_header(random, memory, kind);
     let capacity = capacity(memory.header.window_size) as u32;
     let placed = random.percent(50);
+    let bits = random.pick(&[u32::MAX, u32::MAX >> 1]);
     for (cell, sequence) in (0..).zip(memory.lists[SEQUENCES].numbers()) {
         let any = word(random, kind) as u32;
-        *sequence = if placed { any.wrapping_mul(capacity).wrapping_add(cell) } else { any };
+        *sequence = if placed { any.wrapping_mul(capacity).wrapping_add(cell) } else { any } & bits;
     }
     if random.percent(50) {
         memory.header.base = random.pick(memory.lists[SEQUENCES].numbers()) & 0x7fff_ffff;

@@ -43,7 +43,7 @@ pub struct Counts {
 impl Counts {
     pub fn new() -> Self {
         let calls = vec![vec![0; OPERATIONS.len()]; STARTS.len()];
-        let refusals = vec![vec![0; 10]; STARTS.len()];
+        let refusals = vec![vec![0; 11]; STARTS.len()];
         let answers = vec![[0; 8]; OPERATIONS.len()];
         Self { calls, refusals, answers, checked: 0, retired: 0, windows: [0; 17] }
     }
@@ -77,7 +77,7 @@ impl Counts {
                 return Some(format!("no {} on memory {start}", OPERATIONS[operation].name));
             }
             let unsound = at != 0;
-            if let Some(number) = (1..=9).find(|&number| self.refusals[at][number] == 0 && (number != 7 || unsound)) {
+            if let Some(number) = (1..=10).find(|&number| self.refusals[at][number] == 0 && (number != 7 || unsound)) {
                 return Some(format!("no refusal {number} on memory {start}"));
             }
         }
@@ -91,7 +91,7 @@ impl Counts {
         for (row, (_, start)) in self.calls.iter().zip(STARTS) {
             println!("| {start} | {} | {} |", joined(row), row.iter().sum::<u64>());
         }
-        println!("\n| memory | taken | refused 1 | 2 | 3 | 4 | 5 | 6 | 7 | 8 | 9 |\n|---|---|---|---|---|---|---|---|---|---|---|");
+        println!("\n| memory | taken | refused 1 | 2 | 3 | 4 | 5 | 6 | 7 | 8 | 9 | 10 |\n|---|---|---|---|---|---|---|---|---|---|---|---|");
         for (row, (_, start)) in self.refusals.iter().zip(STARTS) {
             println!("| {start} | {} |", joined(row));
         }

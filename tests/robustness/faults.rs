@@ -2,7 +2,7 @@
 
 use crate::declared::{Header, NumberedAnswer, NumberedStep, ABSENT, DONE, PAIR, REFUSED};
 use crate::memory::{Lent, BLOCKS, HEADER, PAGES, RETURNED, SEQUENCES, VALUES};
-use crate::operations::{Call, OCCUPIED, SHORT_MEMORY, UNSOUND};
+use crate::operations::{range_count, Call, OCCUPIED, SEQUENCE, SHORT_MEMORY, UNSOUND};
 use crate::judge::refused;
 use std::process::Command;
 
@@ -132,7 +132,7 @@ pub static FAULTS: &[Fault] = &[
         }
     }),
     fault!("refusal-0", "answers NumberedAnswer { code: 7, first: 0", |call, lent, step| step.answer = refusal(0)),
-    fault!("refusal-10", "answers NumberedAnswer { code: 7, first: 10", |call, lent, step| step.answer = refusal(10)),
+    fault!("refusal-11", "answers NumberedAnswer { code: 7, first: 11", |call, lent, step| step.answer = refusal(11)),
     fault!("refuses-6-what-it-takes", "refuses Some(6)", |call, lent, step| {
         if taken(call, "exchange") {
             step.answer = refusal(SHORT_MEMORY);
@@ -155,6 +155,16 @@ pub static FAULTS: &[Fault] = &[
     }),
     fault!("refuses-in-another-order", "not refusal Some(", |call, lent, step| {
         if call.refusal() == Some(SHORT_MEMORY) {
+            step.answer = refusal(5);
+        }
+    }),
+    fault!("takes-a-sequence-of-32-bits", "not refusal Some(10)", |call, lent, step| {
+        if call.refusal() == Some(SEQUENCE) && call.operation.name == "get" {
+            step.answer = NumberedAnswer { code: ABSENT, first: 0, second: 0, third: 0, fourth: 0 };
+        }
+    }),
+    fault!("refuses-5-before-10", "not refusal Some(10)", |call, lent, step| {
+        if call.refusal() == Some(SEQUENCE) && range_count(call.numbers[0], call.numbers[1]) > call.header.window_size {
             step.answer = refusal(5);
         }
     }),

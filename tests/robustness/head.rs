@@ -46,6 +46,7 @@ crate::counted! {
         fronts: "values taken from the front",
         bases: "bases set",
         bases_refused: "bases refused 9",
+        wide: "calls refused 10",
         points: "calls that left the point past the base",
         ranges: "ranges removed",
         ranges_refused: "ranges refused 5",
@@ -223,6 +224,14 @@ impl Head {
         self.counted()
     }
 
+    /// A call with a number that has its top bit set.
+    pub fn refuses_wide(&mut self, name: &str, numbers: [u32; 3]) -> Result<(), String> {
+        let answer = self.make(name, numbers)?;
+        self.tally.wide += 1;
+        demand((answer.code, answer.first) == (REFUSED, SEQUENCE), || format!("{name} {numbers:?} answers {answer:?}"))?;
+        self.counted()
+    }
+
     pub fn get(&mut self, sequence: u32) -> Result<(), String> {
         let store = self.store_of(sequence);
         let answer = self.make("get", [sequence, 0, 0])?;
@@ -244,7 +253,7 @@ impl Head {
 
     /// Refused if it has its top bit.
     pub fn set_base(&mut self, base: u32) -> Result<(), String> {
-        let taken = base >> 31 == 0;
+        let taken = !is_wide(base);
         let answer = self.make("set_base", [base, 0, 0])?;
         let wanted = if taken { (DONE, 0) } else { (REFUSED, BASE) };
         demand((answer.code, answer.first) == wanted, || format!("set_base {base} answers {answer:?}, not {wanted:?}"))?;
@@ -390,7 +399,7 @@ impl Head {
     fn is_stranger(&self, live: u32, first: u32, count: u32) -> bool {
         let mask = self.table.len() - 1;
         let within = self.position(live).wrapping_sub(self.position(first)) & mask < count as usize;
-        within && (range_count(first, live) > count || live >> 31 == 1)
+        within && range_count(first, live) > count
     }
 
     pub fn stranger(&mut self, first: u32, last: u32) -> Result<(), String> {

@@ -34,11 +34,11 @@ impl Made<'_> {
         self.step.answer
     }
 
-    /// The code is one that the call has, or a refusal from 1 to 9; numbers that the code does not use are 0.
+    /// The code is one that the call has, or a refusal from 1 to 10; numbers that the code does not use are 0.
     fn readable(&self) -> Result<(), String> {
         let answer @ NumberedAnswer { code, first, second, third, fourth } = self.answer();
         let own = self.call.operation.codes.contains(&code);
-        demand(own || (code == REFUSED && (1..=9).contains(&first)), || format!("answers {answer:?}"))?;
+        demand(own || (code == REFUSED && (1..=10).contains(&first)), || format!("answers {answer:?}"))?;
         let unused = &[first, second, third][USED[code as usize]..];
         demand(unused.iter().all(|&number| number == 0), || format!("answers {answer:?}, with numbers that are not used"))?;
         let due = self.reads();

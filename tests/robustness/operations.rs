@@ -9,6 +9,7 @@ pub const SHORT_MEMORY: u32 = 6;
 pub const UNSOUND: u32 = 7;
 pub const BUDGET: u32 = 8;
 pub const BASE: u32 = 9;
+pub const SEQUENCE: u32 = 10;
 
 pub const LARGEST_BUDGET: u32 = 256;
 
@@ -189,6 +190,11 @@ fn limits(window_size: u32, n: u32, demote_at: u32) -> Option<u32> {
     (demote_at > n).then_some(3)
 }
 
+/// It has its top bit set, which no sequence on the wire has.
+pub fn is_wide(number: u32) -> bool {
+    number >> 31 == 1
+}
+
 /// The sequence so many after a base.
 pub fn after_base(base: u32, steps: u32) -> u32 {
     base.wrapping_add(steps) & 0x7fff_ffff
@@ -207,6 +213,15 @@ impl Call {
         (0..taken).any(|list| self.lengths[list] < named[list])
     }
 
+    /// The numbers that are sequences, first or last of a range among them. A base is none.
+    fn sequences(&self) -> &[u32] {
+        match self.operation.numbers {
+            Numbers::Sequence | Numbers::SequenceAndValue => &self.numbers[..1],
+            Numbers::Range => &self.numbers[..2],
+            Numbers::Window | Numbers::Budget | Numbers::Cell | Numbers::Base | Numbers::None => &[],
+        }
+    }
+
     /// The refusal that header, lengths and numbers decide, by document 01's 'Refusal by operation' and document 02.
     pub fn refusal(&self) -> Option<u32> {
         let [first, second, third] = self.numbers;
@@ -217,10 +232,13 @@ impl Call {
         if limits(window_size, n, demote_at).is_some() || self.short() {
             return Some(SHORT_MEMORY);
         }
+        if self.sequences().iter().any(|&number| is_wide(number)) {
+            return Some(SEQUENCE);
+        }
         match self.operation.numbers {
             Numbers::Range => (range_count(first, second) > window_size).then_some(RANGE_COUNT),
             Numbers::Budget => (first > LARGEST_BUDGET).then_some(BUDGET),
-            Numbers::Base => (first >> 31 == 1).then_some(BASE),
+            Numbers::Base => is_wide(first).then_some(BASE),
             _ => None,
         }
     }

@@ -41,43 +41,30 @@ counted! {
         starved: "packets dropped because no store was free",
         absent: "packets absent when they were to be played",
         wraps_31: "sequence numbers wrapped at 31 bits",
-        wraps_32: "sequence numbers wrapped at 32 bits",
+        wide: "packets whose number had its top bit set",
         jumps: "jumps within a show",
     }
 }
 
-/// How sequence numbers follow each other.
-#[derive(Clone, Copy, PartialEq, Eq)]
-enum Wrap {
-    At31,
-    At32,
+const LAST: u32 = u32::MAX >> 1;
+const TOP_BIT: u32 = 1 << 31;
+
+/// The sequence so many later, or earlier: they have 31 bits.
+fn add(sequence: u32, number: u32) -> u32 {
+    sequence.wrapping_add(number) & LAST
 }
 
-impl Wrap {
-    fn last(self) -> u32 {
-        match self {
-            Wrap::At31 => u32::MAX >> 1,
-            Wrap::At32 => u32::MAX,
-        }
-    }
+fn less(sequence: u32, number: u32) -> u32 {
+    sequence.wrapping_sub(number) & LAST
+}
 
-    fn add(self, sequence: u32, number: u32) -> u32 {
-        sequence.wrapping_add(number) & self.last()
-    }
-
-    fn less(self, sequence: u32, number: u32) -> u32 {
-        sequence.wrapping_sub(number) & self.last()
-    }
-
-    /// How far `later` is from `sequence`.
-    fn distance(self, sequence: u32, later: u32) -> u32 {
-        self.less(later, sequence)
-    }
+/// How far `later` is from `sequence`.
+fn distance(sequence: u32, later: u32) -> u32 {
+    less(later, sequence)
 }
 
 pub struct Show {
     pub traffic: Traffic,
-    wrap: Wrap,
     window_size: u32,
     packets: u64,
     /// Packets between sending and playing.
@@ -86,9 +73,10 @@ pub struct Show {
     loss: u32,
     disorder: u32,
     duplicates: u32,
+    wide: u32,
     /// How many packets are dropped by one range, where packets are not removed one by one; 0 if they are.
     batch: u32,
-    /// The window's base is the packet to be played, which is taken from the front. Not where numbers have 32 bits, which no base has.
+    /// The window's base is the packet to be played, which is taken from the front.
     front: bool,
     /// Packets between release visits, and their budget.
     visit_every: u64,
@@ -107,20 +95,19 @@ fn in_a_thousand(random: &mut Random, chance: u32) -> bool {
 
 impl Show {
     pub fn new(random: &mut Random, window_size: u32) -> Self {
-        let wrap = random.pick(&[Wrap::At31, Wrap::At32]);
-        let first = wrap.last() - random.below(20_000);
+        let first = LAST - random.below(20_000);
         let delay = 1 + random.below(window_size - window_size / 8);
         let batch = random.pick(&[0, 0, 1, 50, 64, 300, window_size]).min(window_size);
-        let front = batch == 0 && wrap == Wrap::At31 && random.percent(70);
+        let front = batch == 0 && random.percent(70);
         Self {
             traffic: Traffic::default(),
-            wrap,
             window_size,
             packets: u64::from(window_size) * 4 + u64::from(20_000 + random.below(10_000)),
             delay,
             loss: random.pick(&[0, 5, 50, 200]),
             disorder: random.pick(&[0, 20, 300]),
             duplicates: random.pick(&[0, 10, 100]),
+            wide: random.pick(&[0, 1, 20]),
             batch,
             front,
             visit_every: random.pick(&[1, 7, 100, 5000]),
@@ -149,11 +136,10 @@ impl Show {
     /// The next packet on its way; in an outage none arrives, and nothing is sent again.
     fn send(&mut self, random: &mut Random) {
         let sequence = self.next;
-        self.next = self.wrap.add(sequence, 1);
+        self.next = add(sequence, 1);
         self.traffic.sent += 1;
         if self.next == 0 {
-            let wraps = if self.wrap == Wrap::At31 { &mut self.traffic.wraps_31 } else { &mut self.traffic.wraps_32 };
-            *wraps += 1;
+            self.traffic.wraps_31 += 1;
         }
         if self.outage > 0 {
             self.outage -= 1;
@@ -190,10 +176,32 @@ impl Show {
     }
 
     fn is_late(&self, sequence: u32) -> bool {
-        self.wrap.distance(self.play, sequence) > self.wrap.last() / 2
+        distance(self.play, sequence) > LAST / 2
+    }
+
+    /// The packet as a faulty switch shows it: a call is made with its number's top bit set.
+    fn receive_wide(&mut self, random: &mut Random, head: &mut Head, sequence: u32) -> Result<(), String> {
+        let (wide, later) = (sequence | TOP_BIT, add(sequence, random.below(self.window_size)));
+        let (name, numbers) = match random.below(12) {
+            0 => ("get", [wide, 0, 0]),
+            1 => ("exchange", [wide, random.any(), 0]),
+            2 => ("remove", [wide, 0, 0]),
+            3 => ("first_from", [wide, 0, 0]),
+            4 => ("successor_after", [wide, 0, 0]),
+            5 => ("remove_range", [wide, later, 0]),
+            6 => ("remove_range", [sequence, later | TOP_BIT, 0]),
+            7 => ("stranger", [wide, later, 0]),
+            8 => ("stranger", [sequence, later | TOP_BIT, 0]),
+            _ => ("insert", [wide, random.any(), 0]),
+        };
+        self.traffic.wide += 1;
+        head.refuses_wide(name, numbers)
     }
 
     fn receive(&mut self, random: &mut Random, head: &mut Head, sequence: u32) -> Result<(), String> {
+        if in_a_thousand(random, self.wide) {
+            self.receive_wide(random, head, sequence)?;
+        }
         if self.is_late(sequence) {
             self.traffic.late += 1;
             if random.percent(80) {
@@ -219,7 +227,7 @@ impl Show {
     /// The packet whose time has come: read, and removed or taken unless ranges are dropped.
     fn play_one(&mut self, random: &mut Random, head: &mut Head) -> Result<(), String> {
         let sequence = self.play;
-        self.play = self.wrap.add(sequence, 1);
+        self.play = add(sequence, 1);
         head.get(sequence)?;
         if random.below(50) == 0 {
             if let Some(store) = head.ledger.take(random) {
@@ -235,7 +243,7 @@ impl Show {
             let there = head.remove(sequence)?;
             self.traffic.absent += u64::from(!there);
         } else if self.traffic.sent % u64::from(self.batch) == 0 {
-            head.remove_range(self.wrap.less(sequence, self.batch - 1), sequence)?;
+            head.remove_range(less(sequence, self.batch - 1), sequence)?;
         }
         Ok(())
     }
@@ -246,9 +254,9 @@ impl Show {
         let Some(found) = from else {
             return Ok(());
         };
-        let ahead = self.wrap.distance(self.play, found);
+        let ahead = distance(self.play, found);
         if 0 < ahead && ahead <= self.window_size {
-            head.remove_range(self.play, self.wrap.add(self.play, ahead - 1))?;
+            head.remove_range(self.play, add(self.play, ahead - 1))?;
             self.play = found;
         }
         self.follow(head)
@@ -256,7 +264,7 @@ impl Show {
 
     /// What happens now and then.
     fn seldom(&mut self, random: &mut Random, head: &mut Head) -> Result<(), String> {
-        let last = self.wrap.add(self.play, random.below(self.window_size + 2));
+        let last = add(self.play, random.below(self.window_size + 2));
         match random.below(24) {
             0..=3 => self.skip(random, head),
             4..=7 => head.stranger(self.play, last),
@@ -266,6 +274,7 @@ impl Show {
             15 => head.check(),
             16 => self.jump(random, head),
             17..=18 if !self.front => head.set_base(self.play),
+            19 => head.set_base(self.play | TOP_BIT),
             _ => Ok(()),
         }
     }
@@ -281,7 +290,7 @@ impl Show {
         if random.percent(50) {
             head.release_all(random)?;
         }
-        self.next = self.wrap.add(self.next, random.below(3 * self.window_size));
+        self.next = add(self.next, random.below(3 * self.window_size));
         self.play = self.next;
         self.follow(head)
     }
@@ -295,7 +304,7 @@ impl Show {
             self.on_the_way.pop();
             self.receive(random, head, sequence)?;
         }
-        if self.wrap.distance(self.play, self.next) > self.delay {
+        if distance(self.play, self.next) > self.delay {
             self.play_one(random, head)?;
         }
         if self.time % self.visit_every == 0 {
@@ -316,7 +325,7 @@ impl Show {
             0 => head.clear()?,
             1 => head.clear_bounded(random.below(257))?,
             _ => {
-                head.remove_range(self.play, self.wrap.add(self.play, self.window_size - 1))?;
+                head.remove_range(self.play, add(self.play, self.window_size - 1))?;
                 head.clear_bounded(0)?;
             }
         }

@@ -25,10 +25,12 @@ pub enum Refusal {
     Budget = 8,
     /// `set_base`: a base of 2147483648 or more.
     Base = 9,
+    /// Every call that takes a sequence, a first or a last: it is 2147483648 or more.
+    Sequence = 10,
 }
 
 impl Refusal {
-    const ALL: [Self; 9] = [
+    const ALL: [Self; 10] = [
         Self::WindowSize,
         Self::SparseCells,
         Self::DemoteAt,
@@ -38,6 +40,7 @@ impl Refusal {
         Self::Unsound,
         Self::Budget,
         Self::Base,
+        Self::Sequence,
     ];
 
     /// The number that the papers and the C interface give it.
@@ -62,6 +65,7 @@ impl fmt::Display for Refusal {
             Self::Unsound => "the state is not sound",
             Self::Budget => "the number is above 256",
             Self::Base => "a base of 2147483648 or more",
+            Self::Sequence => "a sequence, first or last of 2147483648 or more",
         };
         write!(f, "refused {}: {why}", self.number())
     }

@@ -20,6 +20,24 @@
 //! # Ok::<(), packet_window::Refusal>(())
 //! ```
 //!
+//! # Sequences
+//!
+//! A sequence number has 31 bits, as on the wire: 0 to 2147483647, and 2147483647 is followed by 0. Every call that takes a sequence, a
+//! first or a last answers [`Refusal::Sequence`] for a number with the top bit set, and nothing is altered; [`Window::set_base`] answers
+//! [`Refusal::Base`]. What the first word of a data packet holds may be handed over as it came, in host order.
+//!
+//! ```
+//! use packet_window::{OwnedMemory, Refusal, Window};
+//!
+//! let mut memory = OwnedMemory::new(512);
+//! let mut window = Window::new(memory.lend(), 512, 8, 4)?;
+//! assert_eq!(window.insert(0x8000_0007, 70).answer, Err(Refusal::Sequence)); // store 70 stays with the caller
+//! assert!(window.insert(0x7fff_ffff, 71).answer.is_ok());
+//! # Ok::<(), packet_window::Refusal>(())
+//! ```
+//!
+//! # Memory
+//!
 //! With fixed memory, and no allocator (without the feature `alloc` the crate needs none):
 //!
 //! ```

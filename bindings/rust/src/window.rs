@@ -114,23 +114,29 @@ impl<'m> Window<'m> {
 
     /// Puts a value at a sequence. If its page is retired, the retired values of that page are returned first.
     ///
-    /// Refused: `Occupied`, and the value stays with the caller.
+    /// Refused, in this order: `Sequence`, `Occupied`. The value then stays with the caller.
     pub fn insert(&mut self, sequence: u32, value: u32) -> Outcome<'_, Inserted> {
         let step = returning!(self, packet_window_insert(sequence, value));
         self.outcome(step, answers::inserted)
     }
 
     /// The value of a sequence.
+    ///
+    /// Refused: `Sequence`.
     pub fn get(&self, sequence: u32) -> Result<Option<u32>, Refusal> {
         answers::found(reading!(self, packet_window_get(sequence)))
     }
 
     /// Puts a value in place of the one that the sequence has, and hands that back; or none, and the new value stays with the caller.
+    ///
+    /// Refused: `Sequence`, and the new value stays with the caller.
     pub fn exchange(&mut self, sequence: u32, value: u32) -> Result<Option<u32>, Refusal> {
         answers::found(writing!(self, packet_window_exchange(sequence, value)).answer)
     }
 
     /// Removes the value of a sequence and hands it back.
+    ///
+    /// Refused: `Sequence`.
     pub fn remove(&mut self, sequence: u32) -> Result<Option<u32>, Refusal> {
         answers::found(writing!(self, packet_window_remove(sequence)).answer)
     }
@@ -149,11 +155,15 @@ impl<'m> Window<'m> {
     }
 
     /// The first live sequence by position, from the position after the given sequence's, round the capacity, to its own last of all.
+    ///
+    /// Refused: `Sequence`.
     pub fn successor_after(&self, sequence: u32) -> Result<Option<u32>, Refusal> {
         answers::found(reading!(self, packet_window_successor_after(sequence)))
     }
 
     /// The first live sequence by position, from the given sequence's own, round the capacity.
+    ///
+    /// Refused: `Sequence`.
     pub fn first_from(&self, sequence: u32) -> Result<Option<u32>, Refusal> {
         answers::found(reading!(self, packet_window_first_from(sequence)))
     }
@@ -161,7 +171,7 @@ impl<'m> Window<'m> {
     /// Removes the values at the positions of first to last, whatever their sequences are, and releases with a budget of 256. Answers
     /// how many of them were live. What is not returned by this call stays retired.
     ///
-    /// Refused: `RangeCount`.
+    /// Refused, in this order: `Sequence`, `RangeCount`.
     pub fn remove_range(&mut self, first: u32, last: u32) -> Outcome<'_, u32> {
         let step = returning!(self, packet_window_remove_range(first, last));
         self.outcome(step, answers::number)
@@ -205,10 +215,10 @@ impl<'m> Window<'m> {
         Iter { window: self, cell: Some(0) }
     }
 
-    /// A live pair, sequence and value, at a position of first to last that is none of the range's sequences, or whose sequence has its
-    /// top bit set; none exactly if there is none.
+    /// A live pair, sequence and value, at a position of first to last whose sequence is none of the range's; none exactly if there is
+    /// none.
     ///
-    /// Refused: `RangeCount`.
+    /// Refused, in this order: `Sequence`, `RangeCount`.
     pub fn stranger(&self, first: u32, last: u32) -> Result<Option<(u32, u32)>, Refusal> {
         answers::pair(reading!(self, packet_window_stranger(first, last)))
     }

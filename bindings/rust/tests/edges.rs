@@ -77,10 +77,34 @@ fn sequences_that_share_a_position() {
     enter(&mut w, 5, 50);
     enter(&mut w, 70, 51);
     assert_eq!(w.insert(133, 52).answer, Err(Refusal::Occupied));
-    assert_eq!(w.insert(2147483653, 53).answer, Err(Refusal::Occupied));
-    assert_eq!((w.get(5), w.get(133), w.get(2147483653)), (Ok(Some(50)), Ok(None), Ok(None)));
+    assert_eq!(w.insert(1073741829, 53).answer, Err(Refusal::Occupied));
+    assert_eq!((w.get(5), w.get(133), w.get(1073741829)), (Ok(Some(50)), Ok(None), Ok(None)));
     assert_eq!((w.exchange(133, 54), w.remove(133)), (Ok(None), Ok(None)));
     assert_eq!(w.len(), 2);
+}
+
+#[test]
+fn a_sequence_has_31_bits() {
+    let mut memory = OwnedMemory::new(64);
+    let mut w = window(&mut memory, 64);
+    enter(&mut w, 5, 50);
+    enter(&mut w, 2147483647, 51);
+    let before = *w.header();
+    for wide in [2147483648, 2147483653, 4294967295] {
+        let inserted = w.insert(wide, 52);
+        assert_eq!((inserted.answer, inserted.returned.len()), (Err(Refusal::Sequence), 0));
+        assert_eq!((w.get(wide), w.exchange(wide, 52), w.remove(wide)), (Err(Refusal::Sequence), Err(Refusal::Sequence), Err(Refusal::Sequence)));
+        assert_eq!((w.successor_after(wide), w.first_from(wide)), (Err(Refusal::Sequence), Err(Refusal::Sequence)));
+        for (first, last) in [(wide, 5), (5, wide), (wide, wide), (wide, 2147483647)] {
+            let removed = w.remove_range(first, last);
+            assert_eq!((removed.answer, removed.returned.len()), (Err(Refusal::Sequence), 0), "{first} {last}");
+            assert_eq!(w.stranger(first, last), Err(Refusal::Sequence), "{first} {last}");
+        }
+        assert_eq!(w.set_base(wide), Err(Refusal::Base));
+    }
+    assert_eq!((*w.header(), w.check()), (before, Ok(())));
+    assert_eq!((w.get(2147483647), w.stranger(2147483647, 0)), (Ok(Some(51)), Ok(None)));
+    assert_eq!((w.remove(2147483647), w.remove(5)), (Ok(Some(51)), Ok(Some(50))));
 }
 
 #[test]
@@ -158,9 +182,9 @@ fn the_point_is_at_most_window_size_from_the_base() {
 fn an_alias_or_a_retired_value_is_none_of_the_base() {
     let mut memory = OwnedMemory::new(64);
     let mut w = window(&mut memory, 64);
-    enter(&mut w, 2147483648, 7);
+    enter(&mut w, 64, 7);
     assert_eq!((w.point(), w.take_front(), w.base()), (0, Ok(None), 0));
-    assert_eq!(w.remove(2147483648), Ok(Some(7)));
+    assert_eq!(w.remove(64), Ok(Some(7)));
     enter(&mut w, 0, 8);
     assert_eq!(w.clear_bounded(0).answer, Ok(0));
     assert_eq!((w.point(), w.take_front(), w.retired_held()), (0, Ok(None), 1));
@@ -256,8 +280,8 @@ fn strangers() {
     assert_eq!(w.stranger(5, 5), Ok(Some((69, 51))));
     assert_eq!((w.stranger(69, 69), w.stranger(6, 68)), (Ok(None), Ok(None)));
     assert_eq!((w.stranger(0, 63), w.stranger(0, 64)), (Ok(Some((69, 51))), Err(Refusal::RangeCount)));
-    enter(&mut w, 2147483654, 52);
-    assert_eq!(w.stranger(2147483654, 2147483654), Ok(Some((2147483654, 52))));
+    enter(&mut w, 2147483647, 52);
+    assert_eq!((w.stranger(2147483647, 0), w.stranger(63, 63)), (Ok(None), Ok(Some((2147483647, 52)))));
 }
 
 /// The parts of a window of 100 with three live values.
@@ -279,7 +303,7 @@ fn a_window_goes_on_from_its_parts() {
 
 #[test]
 fn parts_that_were_written_are_refused() {
-    let damage: [fn(&mut Header, &mut Memory); 9] = [
+    let damage: [fn(&mut Header, &mut Memory); 10] = [
         |header, _| header.len += 1,
         |header, _| header.retired_held = 1,
         |header, _| header.release_cursor = 2,
@@ -287,6 +311,7 @@ fn parts_that_were_written_are_refused() {
         |header, _| header.base = 2147483648,
         |header, _| header.point = 1,
         |_, memory| memory.sequences[0] += 1,
+        |_, memory| memory.sequences[64] |= 1 << 31,
         |_, memory| memory.pages[0] = 3,
         |_, memory| memory.blocks[2] -= 1,
     ];

@@ -55,6 +55,13 @@ impl Pool {
     }
 }
 
+const TOP_BIT: u32 = 1 << 31;
+
+/// The lowest 31 bits: a sequence as on the wire.
+fn wire(number: u32) -> u32 {
+    number & (TOP_BIT - 1)
+}
+
 /// At each position nothing or one pair.
 struct Table {
     window_size: u32,
@@ -86,12 +93,12 @@ impl Table {
     }
 
     fn count(first: u32, last: u32) -> u32 {
-        (last.wrapping_sub(first) & 0x7fff_ffff) + 1
+        wire(last.wrapping_sub(first)) + 1
     }
 
     /// The first sequence from the base that is not live, at most window_size from it.
     fn point(&self, base: u32) -> u32 {
-        let after = |steps: u32| base.wrapping_add(steps) & 0x7fff_ffff;
+        let after = |steps: u32| wire(base + steps);
         let reach = (0..self.window_size).find(|&steps| self.get(after(steps)).is_none());
         after(reach.unwrap_or(self.window_size))
     }
@@ -99,7 +106,7 @@ impl Table {
     /// Whether the pair is one that `stranger` may give for a range.
     fn is_stranger(&self, pair: (u32, u32), first: u32, count: u32) -> bool {
         let inside = |sequence: u32| sequence.wrapping_sub(first) % self.capacity < count;
-        let outside = Self::count(first, pair.0) > count || pair.0 >> 31 != 0;
+        let outside = Self::count(first, pair.0) > count;
         self.at(pair.0) == Some(pair) && inside(pair.0) && outside
     }
 
@@ -131,6 +138,7 @@ struct Seen {
     replaced: u64,
     strangers: u64,
     fronts: u64,
+    wide: u64,
     furthest_point: u32,
     most_retired: u32,
     returned_by_insert: u64,
@@ -140,10 +148,10 @@ struct Seen {
 impl Run<'_> {
     fn sequence(&mut self) -> u32 {
         match self.random.below(20) {
-            0 => self.random.next() as u32,
-            1..=5 => self.base.wrapping_add(self.random.below(self.table.window_size)),
+            0 => wire(self.random.next() as u32),
+            1..=5 => wire(self.base + self.random.below(self.table.window_size)),
             6..=9 => self.window.point(),
-            _ => self.base.wrapping_add(self.random.below(500.min(self.table.window_size))),
+            _ => wire(self.base + self.random.below(500.min(self.table.window_size))),
         }
     }
 
@@ -196,7 +204,7 @@ impl Run<'_> {
         let base = self.window.base();
         let value = self.table.get(base);
         assert_eq!(self.window.take_front(), Ok(value), "take_front at {base}");
-        let moved = value.map_or(base, |_| (base + 1) & 0x7fff_ffff);
+        let moved = value.map_or(base, |_| wire(base + 1));
         assert_eq!(self.window.base(), moved);
         if let Some(value) = value {
             self.seen.fronts += 1;
@@ -205,12 +213,29 @@ impl Run<'_> {
         }
     }
 
-    /// Most sequences lie elsewhere from now on. The window's base follows, if it can.
+    /// Most sequences lie elsewhere from now on, and the window's base follows.
     fn move_base(&mut self) {
-        self.base = self.base.wrapping_add(self.random.below(self.table.window_size));
-        let before = self.window.base();
-        let (wanted, base) = if self.base < 1 << 31 { (Ok(()), self.base) } else { (Err(Refusal::Base), before) };
-        assert_eq!((self.window.set_base(self.base), self.window.base()), (wanted, base));
+        self.base = wire(self.base + self.random.below(self.table.window_size));
+        assert_eq!((self.window.set_base(self.base), self.window.base()), (Ok(()), self.base));
+    }
+
+    /// A number with the top bit set is refused by every call that takes a sequence, and a base of that kind.
+    fn wide(&mut self) {
+        let (sequence, store, before) = (self.sequence(), self.pool.take(&mut self.random), *self.window.header());
+        let wide = sequence | TOP_BIT;
+        let refused = Err(Refusal::Sequence);
+        assert_eq!(self.window.insert(wide, store).answer, Err(Refusal::Sequence), "insert {wide}");
+        assert_eq!(self.window.exchange(wide, store), refused, "exchange {wide}");
+        self.pool.refused(store);
+        assert_eq!((self.window.get(wide), self.window.remove(wide)), (refused, refused), "get, remove {wide}");
+        assert_eq!((self.window.first_from(wide), self.window.successor_after(wide)), (refused, refused), "searches from {wide}");
+        for (first, last) in [(wide, sequence), (sequence, wide), (wide, wide)] {
+            assert_eq!(self.window.remove_range(first, last).answer, refused, "remove_range {first} {last}");
+            assert_eq!(self.window.stranger(first, last), Err(Refusal::Sequence), "stranger {first} {last}");
+        }
+        assert_eq!(self.window.set_base(wide), Err(Refusal::Base), "set_base {wide}");
+        assert_eq!(*self.window.header(), before);
+        self.seen.wide += 1;
     }
 
     fn look(&mut self) {
@@ -228,7 +253,7 @@ impl Run<'_> {
             0 => self.random.below(self.table.window_size + 2),
             _ => self.random.below(64.min(self.table.window_size)),
         };
-        (first, first.wrapping_add(reach))
+        (first, wire(first + reach))
     }
 
     fn stranger(&mut self) {
@@ -312,11 +337,12 @@ impl Run<'_> {
             940..=984 => self.release(),
             985..=987 => self.clear(),
             988..=990 => self.clear_bounded(),
+            991..=992 => self.wide(),
             _ => self.move_base(),
         }
         let (base, point) = (self.window.base(), self.window.point());
         assert_eq!(point, self.table.point(base), "the point from {base}");
-        self.seen.furthest_point = self.seen.furthest_point.max(point.wrapping_sub(base) & 0x7fff_ffff);
+        self.seen.furthest_point = self.seen.furthest_point.max(wire(point.wrapping_sub(base)));
         assert_eq!(self.window.len() as usize, self.table.pairs.len());
         assert_eq!((self.window.len() + self.window.retired_held()) as usize, self.pool.out.len());
         self.seen.most_retired = self.seen.most_retired.max(self.window.retired_held());
@@ -345,6 +371,7 @@ impl Seen {
         self.replaced += other.replaced;
         self.strangers += other.strangers;
         self.fronts += other.fronts;
+        self.wide += other.wide;
         self.furthest_point = self.furthest_point.max(other.furthest_point);
         self.most_retired = self.most_retired.max(other.most_retired);
         self.returned_by_insert += other.returned_by_insert;
@@ -359,7 +386,7 @@ fn run(seed: u64, window_size: u32, calls: u32, seen: &mut Seen) {
     let mut memory = OwnedMemory::new(window_size);
     let window = Window::new(memory.lend(), window_size, n, demote_at).expect("within the limits");
     let stores = capacity(window_size) as u32 + 1;
-    let base = random.next() as u32;
+    let base = wire(random.next() as u32);
     let mut run = Run { window, table: Table::new(window_size), pool: Pool::new(stores), random, base, seen: Seen::default() };
     for call in 0..calls {
         run.step();
@@ -377,7 +404,7 @@ fn runs(seeds: std::ops::RangeInclusive<u64>, window_sizes: &[u32], calls: u32) 
         run(seed, window_size, calls, &mut seen);
     }
     assert!(seen.promotions > 0 && seen.demotions > 0 && seen.refused > 0 && seen.replaced > 0);
-    assert!(seen.fronts > 0 && seen.furthest_point > 10);
+    assert!(seen.fronts > 0 && seen.wide > 0 && seen.furthest_point > 10);
     assert!(seen.strangers > 0 && seen.most_retired > 0 && seen.returned_by_insert > 0 && seen.returned_by_release > 0);
 }
 

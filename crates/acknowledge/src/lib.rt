@@ -10,6 +10,7 @@ use run::page_run;
 use window::AdaptiveReceiverPacketWindow;
 use window::memory::PAGE_SLOTS;
 use window::memory::position;
+use window::refusals::is_wire_number;
 ghost use mathlib.Core.Path.{_≡_};
 ghost use mathlib.Core.Bool.{true};
 ghost use Prim.Native.Nat.{_≤_};
@@ -261,7 +262,7 @@ pub fn is_current(
     requires { ⌜ ListsLent w (now sequences) (now pages) (now blocks) ⌝ }
     ensures { λ r. ⌜ DecidesCurrent w (now (sequences .entry)) (now (pages .entry)) (now (blocks .entry)) r ⌝ }
 {
-    if 0x7fff_ffff < w.base {
+    if !is_wire_number(w.base) {
         return false;
     }
     w.point == point_from(w, sequences, pages, blocks, w.base, 0)

@@ -27,6 +27,7 @@ use Rattle.model.specs.Window.{Window, decode, pointFor}
 use Rattle.model.specs.Steps.{setPoint, withHeader, Effect, unlessRefused, knownBy, windowAnswer, windowDoes, repoint, windowActs, windowStep}
 use Rattle.model.specs.Sound.{SoundWithPoint}
 use Rattle.model.specs.Contract.{State, windowOf, Left, lengthsFit, refusal, Unaltered, DoesAs, Does, Meets, SamePast, SameLengths}
+use Rattle.model.proofs.RefusalLaws.{tested, listed-taken}
 use Rattle.page_base.proofs.DecodeLaws.{header-at}
 use Rattle.page_remove.proofs.WroteLaws.{stretch-length}
 use Rattle.call_base.specs.Answers.{answerOf, replied, refusedBy, leftOf}
@@ -65,10 +66,6 @@ refused-meets c u l k e n = record {
 }
 
 -- with no refusal for arguments the whole step is what the call does
-tested : (k : ℕ) (taken : Bool) (rest : ℕ) → (k ≡ 0 → ⊥) → first k taken rest ≡ 0 → (taken ≡ true) × (rest ≡ 0)
-tested k true rest n e = (refl, e)
-tested k false rest n e = absurd (n e)
-
 unless-none : (k : ℕ) (w : Window) (e : Effect) → k ≡ 0 → unlessRefused k w e ≡ e
 unless-none zero w e z = refl
 unless-none (suc k) w e z = absurd (omega arith)
@@ -221,7 +218,7 @@ module _ (c : Call) (u : State) (places : ℕ) (listed : hasPlaces (roleOf c .li
     admitted-fits = fits-is _ _ _ _ _ (tested 6 (lengthsFit u) _ (λ k. omega arith) none-applies .0)
 
     arguments-taken : (hasPlaces (roleOf c .listed) ≡ true) × (refusedFor (knownBy (u .header)) (roleOf c .arguments) ≡ 0)
-    arguments-taken = tested 6 (hasPlaces (roleOf c .listed)) _ (λ k. omega arith) (tested 6 (lengthsFit u) _ (λ k. omega arith) none-applies .1)
+    arguments-taken = listed-taken (knownBy (u .header)) c (tested 6 (lengthsFit u) _ (λ k. omega arith) none-applies .1)
 
     pub admitted-places : 384 ≤ places
     admitted-places = leb-true 384 places (sym listed ∙ arguments-taken .0)

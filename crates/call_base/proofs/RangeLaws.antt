@@ -2,18 +2,18 @@
 use mathlib.Core.Path.{_≡_}
 use Prim.Native.Nat.{ℕ, _≤_, _<_}
 use native.Mathlib.Omega.{arith}
-use lib.Dec.{leb}
 use borrow.Author.Tests.{leb-true}
-use Rattle.words.proofs.CaseLaws.{bool}
 use Rattle.model.specs.Roles.{range-argument, number-argument}
 use Rattle.model.specs.Table.{rangeCount, Known, refusedFor}
+use Rattle.model.proofs.RefusalLaws as refusals
+use Rattle.model.proofs.RefusalLaws.{tested, wire-taken}
 
 pub count-taken : (k : Known) (first last : ℕ) → refusedFor k (range-argument first last) ≡ 0 → rangeCount first last ≤ k .size
-count-taken k a b z = bool (leb (rangeCount a b) (k .size)) (λ e. leb-true _ _ e) (λ e. absurd (omega (arith, rw e at z)))
+count-taken k a b z = leb-true _ _ (refusals.count-taken k a b z)
 
 pub count-some : (first last : ℕ) → 0 < rangeCount first last
 unfolding rangeCount
 count-some a b = omega arith
 
 pub number-taken : (k : Known) (n : ℕ) → refusedFor k (number-argument n) ≡ 0 → n ≤ 256
-number-taken k n z = bool (leb n 256) (λ e. leb-true _ _ e) (λ e. absurd (omega (arith, rw e at z)))
+number-taken k n z = leb-true n 256 (tested 8 _ _ (λ e. omega arith) (wire-taken k (number-argument n) z .1) .0)

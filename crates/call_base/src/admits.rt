@@ -4,9 +4,10 @@ use window::AdaptiveReceiverPacketWindow;
 use window::refusals::Refusal;
 use window::refusals::Verdict;
 use window::refusals::fits_with_list;
+use window::refusals::is_wire_number;
 ghost use mathlib.Core.Path.{_≡_};
 ghost use Rattle.window.specs.Refusals.{verdictNumber};
-ghost use Rattle.model.specs.Table.{refusedFor};
+ghost use Rattle.model.specs.Table.{limitRefusal, areWireNumbers, refusedFor};
 ghost use Rattle.model.specs.Steps.{knownBy};
 ghost use Rattle.call_base.specs.Admits.{argumentsOf, admission};
 
@@ -22,9 +23,9 @@ pub enum Arguments {
 // The places that a call which takes no return list names for it: enough.
 pub const NO_LIST: usize = 384;
 
-// Whether the arguments are refused.
-fn refused_for(w: AdaptiveReceiverPacketWindow, arguments: Arguments) -> Verdict
-    ensures { λ r. ⌜ verdictNumber r ≡ refusedFor (knownBy w) (argumentsOf arguments) ⌝ }
+// Whether a count, a number or a base is above its limit: 5, 8 or 9.
+fn limit_refusal(w: AdaptiveReceiverPacketWindow, arguments: Arguments) -> Verdict
+    ensures { λ r. ⌜ verdictNumber r ≡ limitRefusal (knownBy w) (argumentsOf arguments) ⌝ }
 {
     match arguments {
         Arguments::Nothing => Verdict::Pass,
@@ -42,12 +43,35 @@ fn refused_for(w: AdaptiveReceiverPacketWindow, arguments: Arguments) -> Verdict
             Verdict::Pass
         }
         Arguments::Base(base) => {
-            if 0x7fff_ffff < base {
+            if !is_wire_number(base) {
                 return Verdict::Refuse(Refusal::Base);
             }
             Verdict::Pass
         }
     }
+}
+
+// Whether the sequences among the arguments have 31 bits.
+fn are_wire_numbers(arguments: Arguments) -> bool
+    ensures { λ r. ⌜ r ≡ areWireNumbers (argumentsOf arguments) ⌝ }
+{
+    match arguments {
+        Arguments::Nothing => true,
+        Arguments::Sequence(sequence) => is_wire_number(sequence),
+        Arguments::Range(first, last) => is_wire_number(first) && is_wire_number(last),
+        Arguments::Number(number) => true,
+        Arguments::Base(base) => true,
+    }
+}
+
+// Whether the arguments are refused.
+fn refused_for(w: AdaptiveReceiverPacketWindow, arguments: Arguments) -> Verdict
+    ensures { λ r. ⌜ verdictNumber r ≡ refusedFor (knownBy w) (argumentsOf arguments) ⌝ }
+{
+    if !are_wire_numbers(arguments) {
+        return Verdict::Refuse(Refusal::Sequence);
+    }
+    limit_refusal(w, arguments)
 }
 
 // Whether a call with these lists, by their lengths, and these arguments is refused.

@@ -25,7 +25,7 @@ use Rattle.model.specs.Window.{Window, decode, sizeOf, liveAt, pointFor}
 use Rattle.model.specs.Steps.{setBase, setPoint, headerFrom, withHeader, isNew, liveHere, removeStep, frontStep, knownBy, repoint, windowActs, windowDoes}
 use Rattle.model.specs.Sound.{SoundWithPoint}
 use Rattle.model.specs.Contract.{State, windowOf, Left}
-use Rattle.model.proofs.KeepLaws.{base-taken}
+use Rattle.model.proofs.RefusalLaws.{remove-taken, base-taken}
 use Rattle.laws_soundness.proofs.ProperLaws.{proper-decode}
 use Rattle.laws_acknowledge.specs.Increments.{afterInsert, afterRemove, afterSetBase}
 use Rattle.laws_acknowledge.proofs.WindowLaws.{insert-works, exchange-works, remove-works, base-works, front-works}
@@ -209,11 +209,11 @@ module _ (w : AdaptiveReceiverPacketWindow) (m : Memory) (x : Step) (m′ : Memo
   abbrev gone : Left
   gone = leftOf x m′ []
 
-  module _ (a : Admitted (remove base) found [] gone) (z : argumentRefusal (knownBy (windowOf found .header)) (remove base) ≡ 0)
-      (k : MovesFront w (m′ .sequences) (m′ .pages) (m′ .blocks) x r) where
+  module _ (a : Admitted (remove base) found [] gone) (k : MovesFront w (m′ .sequences) (m′ .pages) (m′ .blocks) x r) where
     front-moved : SoundWithPoint (windowOf found) → windowOf (stateOf (r .window) m′) ≡ windowActs (windowOf found) take-front .after
     unfolding decode
     front-moved ok =
+        let z = remove-taken (knownBy (windowOf found .header)) base (ok .base) in
         let next = sequenceAt base 1 in
         let v = windowOf (gone .state) in
         let is = left-window (remove base) found [] gone a z ok in

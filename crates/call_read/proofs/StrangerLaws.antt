@@ -74,16 +74,6 @@ pub none-stranger : (first count : ℕ) (o : Option Pair) → holds o ≡ false 
 none-stranger first count none e = refl
 none-stranger first count (some x) e = absurd (true≢false e)
 
--- by the top bit of its sequence; without it, by the count of its distance
-pub stranger-high : (first count s : ℕ) → 2147483648 ≤ s → true ≡ isStranger first count (some (pairOf s 0))
-stranger-high first count s l = bool (leb (count + 1) (rangeCount first s)) (λ e. rw e) (λ e. rw (e, le-leb 2147483648 s l))
-
-pub stranger-far : (first count s r : ℕ) → r ≡ rangeCount first s → s < 2147483648 → ltb count r ≡ isStranger first count (some (pairOf s 0))
-stranger-far first count s r is l =
-    bool (ltb count r)
-    (λ e. e ∙ rw (le-leb (count + 1) (rangeCount first s) (omega (arith, is, ltb-true count r e))))
-    (λ e. e ∙ rw (lt-leb (count + 1) (rangeCount first s) (omega (arith, is, ltb-false count r e)), lt-leb 2147483648 s l))
-
 -- ---- the first live value from a position on
 
 module _ (v : Window) (from end : ℕ) where

@@ -5,6 +5,7 @@ use block_search::walk::find_live;
 use call_base::admits::Arguments;
 use call_base::admits::NO_LIST;
 use call_base::admits::admits;
+use call_base::distance;
 use call_base::range_count;
 use call_base::refuse;
 use call_base::reply;
@@ -27,14 +28,11 @@ ghost use Rattle.call_base.specs.Answers.{answerOf, MeetsBy};
 ghost use Rattle.call_base.specs.Contracts.{TellsBy};
 ghost use Rattle.call_read.specs.Contracts.{FindsStranger, FindsInRange, GivesPair, GivesFound};
 
-// Whether a sequence is none of the `count` from `first` on: its distance from first is count or more, or its top bit is set.
+// Whether a sequence is none of the `count` from `first` on: its distance from first is count or more.
 fn is_stranger(first: u32, count: u32, sequence: u32) -> bool
     ensures { λ r. ⌜ r ≡ isStranger first count (some (pairOf sequence 0)) ⌝ }
 {
-    if 0x8000_0000 <= sequence {
-        return true;
-    }
-    count < range_count(first, sequence)
+    count <= distance(first, sequence)
 }
 
 // The sequence of the first stranger at the positions from `start` up to `end`.

@@ -14,7 +14,8 @@ use Rattle.model.specs.Window.{Page, Window, sizeOf, capacityOf, pagesOf, stand
 use Rattle.model.specs.Positions.{Positions, sweepRange, does}
 use Rattle.model.specs.Steps.{setBase, withHeader, isNew, liveHere, removeStep, frontStep, knownBy, windowDoes}
 use Rattle.model.specs.Sound.{SoundWithPoint}
-use Rattle.model.proofs.KeepLaws.{count-some, range-taken}
+use Rattle.model.proofs.KeepLaws.{count-some}
+use Rattle.model.proofs.RefusalLaws.{range-taken}
 use Rattle.model.proofs.SweepLaws.{range-live}
 use Rattle.laws_soundness.specs.Change.{Proper, Limits, Sizes, SameSizes, SameLimits}
 use Rattle.laws_soundness.proofs.RetireReleaseLaws.{count-few}
@@ -111,7 +112,7 @@ module _ (w : Window) (ok : Proper w) (current : SoundWithPoint w) where
       let start = position size a in
       let count = rangeCount a b in
       let l = position-lt size a in
-      let few = count-few w ok a b (range-taken size a b listed z) in
+      let few = count-few w ok a b (range-taken (knownBy (w .header)) a b listed z) in
       let empty : (q : ℕ) → capacityOf w ≤ q → liveAt w q ≡ none =
       λ q k. let g = proper-order w ok in empty-live (w .header .n) w q (g .places (q / 64)) (g .past (q / 64) (omega (arith, capacity-pages size))) in
       works w ok (remove-range a b listed) z refl (current .point) (λ n t base point. afterRange (capacity n) (position n a) (rangeCount a b) base point)

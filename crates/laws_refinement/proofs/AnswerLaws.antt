@@ -7,9 +7,10 @@ use lib.Dec.{eqb, leb, ltb}
 use Rattle.words.proofs.CaseLaws.{bool}
 use Rattle.words.specs.First.{firstFrom, firstRound}
 use Rattle.window.specs.Memory.{position}
+use Rattle.window.specs.Refusals.{isWireNumber}
 use Rattle.model.specs.Calls.{Query, get, successor-after, first-from, iter, stranger, check, Call, insert, exchange, remove, remove-range, clear, clear-bounded, release-retired, set-base, take-front, ask, Answer, done, new, replaced, absent, found, pair, ended, released, refused}
 use Rattle.model.specs.Roles.{Arguments, no-argument, sequence-argument, range-argument, number-argument, base-argument, roleOf}
-use Rattle.model.specs.Table.{Pair, Table, holds, valueIf, rangeCount, covers, sequenceOf, searchFrom, isStranger, pairAnswer, strangerIn, Known, first, refusedFor, hasPlaces, argumentRefusal}
+use Rattle.model.specs.Table.{Pair, Table, holds, valueIf, rangeCount, covers, sequenceOf, searchFrom, isStranger, pairAnswer, strangerIn, Known, first, limitRefusal, areWireNumbers, refusedFor, hasPlaces, argumentRefusal}
 use Rattle.model.specs.Window.{Page, Window, sizeOf, capacityOf, cellOf, liveAt, isReached, cellPair, readsOf, iterStep}
 use Rattle.model.specs.Pages.{valuesIn, insertPage}
 use Rattle.model.specs.Steps.{Effect, pageOf, liveHere, revive, insertStep, exchangeStep, removeStep, rangeStep, clearStep, clearBoundedStep, releaseStep, frontStep, unlessRefused, windowAnswer, knownBy, windowActs, windowStep, windowDoes}
@@ -68,12 +69,15 @@ tested-not-7 : (k : ℕ) (taken : Bool) (rest : ℕ) → isSeven (refused k) ≡
 tested-not-7 k true rest a b = b
 tested-not-7 k false rest a b = a
 
+limit-not-7 : (k : Known) (a : Arguments) → isSeven (refused (limitRefusal k a)) ≡ false
+limit-not-7 k no-argument = refl
+limit-not-7 k (sequence-argument s) = refl
+limit-not-7 k (range-argument a b) = tested-not-7 5 (leb (rangeCount a b) (k .size)) 0 refl refl
+limit-not-7 k (number-argument n) = tested-not-7 8 (leb n 256) 0 refl refl
+limit-not-7 k (base-argument s) = tested-not-7 9 (isWireNumber s) 0 refl refl
+
 refused-for-not-7 : (k : Known) (a : Arguments) → isSeven (refused (refusedFor k a)) ≡ false
-refused-for-not-7 k no-argument = refl
-refused-for-not-7 k (sequence-argument s) = refl
-refused-for-not-7 k (range-argument a b) = tested-not-7 5 (leb (rangeCount a b) (k .size)) 0 refl refl
-refused-for-not-7 k (number-argument n) = tested-not-7 8 (leb n 256) 0 refl refl
-refused-for-not-7 k (base-argument s) = tested-not-7 9 (ltb s (2 ^ 31)) 0 refl refl
+refused-for-not-7 k a = tested-not-7 10 (areWireNumbers a) (limitRefusal k a) refl (limit-not-7 k a)
 
 pub argument-not-7 : (k : Known) (c : Call) → isSeven (refused (argumentRefusal k c)) ≡ false
 argument-not-7 k c = tested-not-7 6 (hasPlaces (roleOf c .listed)) (refusedFor k (roleOf c .arguments)) refl (refused-for-not-7 k (roleOf c .arguments))

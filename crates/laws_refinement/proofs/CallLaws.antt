@@ -6,7 +6,7 @@ use Rattle.model.specs.Table.{argumentRefusal}
 use Rattle.model.specs.Window.{Window, sizeOf}
 use Rattle.model.specs.Positions.{Result, does, unlessRefused as unlessAtPositions}
 use Rattle.model.specs.Steps.{Effect, unlessRefused, knownBy, windowActs}
-use Rattle.model.proofs.KeepLaws.{range-taken}
+use Rattle.model.proofs.RefusalLaws.{range-taken}
 use Rattle.laws_soundness.specs.Change.{Proper}
 use Rattle.laws_refinement.specs.Seen.{positionsOf, Alike, Follows, StepFollows}
 use Rattle.laws_refinement.proofs.PointLaws.{insert-follows, exchange-follows, remove-follows, base-follows, front-follows, ask-follows}
@@ -19,7 +19,7 @@ pub does-follows : (w : Window) → Proper w → (c : Call) → argumentRefusal 
 does-follows w ok (insert s v listed) z = insert-follows w s (ok .sound) (ok .past) v listed
 does-follows w ok (exchange s v) z = exchange-follows w s (ok .sound) v
 does-follows w ok (remove s) z = remove-follows w s (ok .sound)
-does-follows w ok (remove-range a b listed) z = range-follows w ok a b listed (range-taken (sizeOf w) a b listed z)
+does-follows w ok (remove-range a b listed) z = range-follows w ok a b listed (range-taken (knownBy (w .header)) a b listed z)
 does-follows w ok (clear listed) z = clear-follows w ok listed
 does-follows w ok (clear-bounded n listed) z = clear-bounded-follows w ok n listed
 does-follows w ok (release-retired b listed) z = release-follows w ok b listed

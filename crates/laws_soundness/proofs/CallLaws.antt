@@ -14,7 +14,8 @@ use Rattle.model.specs.Table.{finds, sequenceAt, rangeCount, argumentRefusal}
 use Rattle.model.specs.Window.{Window, decode, sizeOf, pagesOf, pointFor}
 use Rattle.model.specs.Steps.{headerFrom, setBase, withHeader, retireAll, liveHere, removeStep, rangeStep, clearStep, clearBoundedStep, releaseStep, frontStep, Effect, effect, unlessRefused, knownBy, repoint, windowActs, windowStep, windowDoes}
 use Rattle.model.specs.Sound.{SoundWithPoint}
-use Rattle.model.proofs.KeepLaws.{count-some, range-taken, base-taken}
+use Rattle.model.proofs.KeepLaws.{count-some}
+use Rattle.model.proofs.RefusalLaws.{range-taken, insert-taken, base-taken}
 use Rattle.laws_soundness.specs.Change.{Proper, Limits, SameSizes, SameLimits}
 use Rattle.laws_soundness.proofs.LimitLaws.{all-limits, insert-limits, exchange-limits, remove-limits}
 use Rattle.laws_soundness.proofs.ProperLaws.{proper-decode}
@@ -120,10 +121,10 @@ module _ (w : Window) (ok : Proper w) where
 
   pub does-leaves : (c : Call) → leavesBase c ≡ true → argumentRefusal (knownBy (w .header)) c ≡ 0 → Leaves w (windowDoes w c .after)
   unfolding windowDoes
-  does-leaves (insert s v listed) own z = leaves (proper-insert w s v ok) (insert-limits w s v)
+  does-leaves (insert s v listed) own z = leaves (proper-insert w s v (insert-taken (knownBy (w .header)) s v listed z) ok) (insert-limits w s v)
   does-leaves (exchange s v) own z = leaves (proper-exchange w s v ok) (exchange-limits w s v)
   does-leaves (remove s) own z = leaves (proper-remove w s ok) (remove-limits w s)
-  does-leaves (remove-range a b listed) own z = range-leaves a b (range-taken (sizeOf w) a b listed z)
+  does-leaves (remove-range a b listed) own z = range-leaves a b (range-taken (knownBy (w .header)) a b listed z)
   does-leaves (clear listed) own z = clear-leaves
   does-leaves (clear-bounded n listed) own z = clear-bounded-leaves n
   does-leaves (release-retired b listed) own z = release-leaves b

@@ -11,7 +11,7 @@ use Rattle.model.specs.Window.{Page, Window, capacityOf, pagesOf, cellOf, isRet
 use Rattle.model.specs.Pages.{setValue, takeCell, demotes, afterRemoval}
 use Rattle.model.specs.Steps.{pageOf, liveHere, exchangeStep, removeStep}
 use Rattle.model.specs.Sound.{SoundPage, Sound}
-use Rattle.page_base.proofs.PlaceLaws.{placed, sound-of, take-placed}
+use Rattle.page_base.proofs.PlaceLaws.{placed, sound-of, take-placed, all-here}
 use Rattle.page_base.proofs.ReadLaws.{Found, found-cell}
 use Rattle.page_base.proofs.ExchangeLaws.{value-placed}
 use Rattle.page_remove.proofs.StandLaws.{take-count, after-count, after-dense}
@@ -35,7 +35,7 @@ module _ (w : Window) (s : ℕ) where
 -- ---- exchange
 
 pub value-sound : (n cap g : ℕ) (p : Page) (c v : ℕ) → SoundPage n cap g p → SoundPage n cap g (setValue p c v)
-value-sound n cap g p c v ok = sound-of n cap g (setValue p c v) (value-placed n p c v (placed n cap g p ok)) (ok .some-occupied) (ok .here)
+value-sound n cap g p c v ok = sound-of n cap g (setValue p c v) (value-placed n p c v (placed n cap g p ok)) (ok .some-occupied) (all-here n cap g p ok)
 
 exchange-alters : (w : Window) (s v : ℕ) → Sound w → Alters w (exchangeStep w s v .after)
 unfolding exchangeStep
@@ -75,7 +75,7 @@ remove-alters w s ok =
       q,
       l,
       put-fewer w g 1 q (demotes d (takeCell p c)) ok l (f .0)
-          (after-sound (w .header .n) (capacityOf w) g (takeCell p c) d (ok .within .demote) taken (take-here (capacityOf w) g p c (sound .here)))
+          (after-sound (w .header .n) (capacityOf w) g (takeCell p c) d (ok .within .demote) taken (take-here (capacityOf w) g p c (all-here (w .header .n) (capacityOf w) g p sound)))
           (λ k n. after-dense (takeCell p c) d k)
           (omega (arith, after-count (takeCell p c) d, take-count (w .header .n) p at c (f .1 .inside) (f .1 .used))),
     )))

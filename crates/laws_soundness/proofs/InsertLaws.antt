@@ -2,7 +2,7 @@
 use mathlib.Core.Path.{_≡_, refl, ap, subst, _∙_}
 use mathlib.Core.Bool.{true, false, cond}
 use mathlib.Core.Option.{none}
-use Prim.Native.Nat.{ℕ, _+_, _/_, _%_, _≤_, _<_}
+use Prim.Native.Nat.{ℕ, _+_, _/_, _%_, _^_, _≤_, _<_}
 use native.Mathlib.Omega.{arith}
 use native.Mathlib.Decide.{ℕ-discrete, decLt}
 use lib.Dec.{eqb}
@@ -14,6 +14,7 @@ use Rattle.model.specs.Window.{Page, Window, capacityOf, pagesOf, cellOf, stand
 use Rattle.model.specs.Pages.{valuesIn, Inserted, insertPage}
 use Rattle.model.specs.Steps.{addLive, countPromotion, putPage, withPage, pageOf, isNew, revive, insertStep}
 use Rattle.model.specs.Sound.{SoundPage}
+use Rattle.page_base.specs.Page.{OfPage}
 use Rattle.page_base.proofs.PlaceLaws.{placed, cell-le}
 use Rattle.page_base.proofs.StandLaws.{stands-out}
 use Rattle.page_insert.proofs.InsertLaws.{Leaves, insert-leaves, insert-sound}
@@ -41,7 +42,7 @@ putIn n u g s v =
     let i = insertPage n (u .pages g) s v in
     cond (isNew (i .answer)) (addLive (countPromotion (putPage u g (i .page)) (i .promotes)) (g / 64) 1) (withPage u g (i .page))
 
-module _ (u : Window) (g s v : ℕ) (ok : Proper u) (below : g < pagesOf u) (here : s % capacityOf u / 64 ≡ g) (live : isRetired u g ≡ false) where
+module _ (u : Window) (g s v : ℕ) (ok : Proper u) (below : g < pagesOf u) (here : OfPage (capacityOf u) g s) (live : isRetired u g ≡ false) where
   abbrev p : Page
   p = u .pages g
 
@@ -81,11 +82,11 @@ module _ (u : Window) (g s v : ℕ) (ok : Proper u) (below : g < pagesOf u) (her
 
 -- ---- insert
 
-pub proper-insert : (w : Window) (s v : ℕ) → Proper w → Proper (insertStep w s v .after)
+pub proper-insert : (w : Window) (s v : ℕ) → s < 2 ^ 31 → Proper w → Proper (insertStep w s v .after)
 unfolding insertStep
-proper-insert w s v ok =
+proper-insert w s v wire ok =
     let g = pageOf w s in
     let r = revive-revives w g ok (page-lt w s) in
     let u = revive w g .after in
-    let here : s % capacityOf u / 64 ≡ g = ap (λ (x : ℕ). s % capacity x / 64) (r .size) in
+    let here : OfPage (capacityOf u) g s = (ap (λ (x : ℕ). s % capacity x / 64) (r .size), wire) in
     subst (λ (n : ℕ). Proper (putIn n u g s v)) (r .cells) (put-proper u g s v (r .proper) (rw (r .size) (page-lt w s)) here (r .live))

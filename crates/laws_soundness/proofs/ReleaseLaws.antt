@@ -19,7 +19,7 @@ use Rattle.model.specs.Pages.{valuesIn, holdsValue, words, takeCell, unlessEmpt
 use Rattle.model.specs.Steps.{noteNonempty, withHeader, setHeld, setCursor, setRetiredBlocks, putPage, setMarks, dropBlockMarks, allPositions, releasePage}
 use Rattle.model.specs.Sound.{SoundPage, retiredIn, Sound}
 use Rattle.page_base.specs.Page.{Placed}
-use Rattle.page_base.proofs.PlaceLaws.{placed, cell-some, cell-used, take-placed}
+use Rattle.page_base.proofs.PlaceLaws.{placed, cell-some, cell-used, take-placed, all-here}
 use Rattle.page_remove.proofs.StandLaws.{clear-fewer, take-count, unless-count}
 use Rattle.page_remove.proofs.RemoveLaws.{unless-sound}
 use Rattle.page_remove.proofs.DrainLaws.{drain-zero, drain-none, drain-first, drain-placed, drain-here, drain-count}
@@ -192,7 +192,7 @@ module _ (w : Window) (g k : ℕ) (ok : Proper w) (below : g < pagesOf w) (retir
   drained-sound : SoundPage (w .header .n) (capacityOf w) g (unlessEmptied (d .page))
   drained-sound =
       unless-sound (w .header .n) (capacityOf w) g (d .page) (drain-placed allPositions (w .header .n) 64 0 k (w .pages g) (omega arith) page-placed)
-      (drain-here allPositions (w .header .n) 64 0 k (w .pages g) (omega arith) page-placed (capacityOf w) g (ok .sound .page g below .here))
+      (drain-here allPositions (w .header .n) 64 0 k (w .pages g) (omega arith) page-placed (capacityOf w) g (all-here (w .header .n) (capacityOf w) g (w .pages g) (ok .sound .page g below)))
 
   drained-counted : held + valuesIn (w .pages g) ≡ w .header .«retired_held» + valuesIn (unlessEmptied (d .page))
   drained-counted = omega (

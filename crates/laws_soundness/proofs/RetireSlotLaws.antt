@@ -12,7 +12,7 @@ use Rattle.words.specs.Word.{isSet}
 use Rattle.model.specs.Window.{Page, Window, capacityOf, pagesOf, isRetired}
 use Rattle.model.specs.Pages.{holdsValue, demotes, afterRemoval, drainPage, PageDrained}
 use Rattle.model.specs.Steps.{noteNonempty, removeSlots}
-use Rattle.page_base.proofs.PlaceLaws.{placed}
+use Rattle.page_base.proofs.PlaceLaws.{placed, all-here}
 use Rattle.page_remove.proofs.StandLaws.{after-count, after-dense}
 use Rattle.page_remove.proofs.RemoveLaws.{after-sound}
 use Rattle.page_remove.proofs.DrainLaws.{drain-placed, drain-here, drain-count}
@@ -52,7 +52,7 @@ module _ (w : Window) (g : ℕ) (P : ℕ → Bool) where
       put-fewer w g (length (d .out)) q (demotes (w .header .«demote_at») (d .page)) (ok .sound) l r
       (after-sound n (capacityOf w) g (d .page) (w .header .«demote_at») (ok .sound .within .demote)
       (drain-placed P n 64 0 64 (w .pages g) (omega arith) at)
-      (drain-here P n 64 0 64 (w .pages g) (omega arith) at (capacityOf w) g (ok .sound .page g l .here)))
+      (drain-here P n 64 0 64 (w .pages g) (omega arith) at (capacityOf w) g (all-here n (capacityOf w) g (w .pages g) (ok .sound .page g l))))
       (λ k z. after-dense (d .page) (w .header .«demote_at») k)
       (omega (arith, after-count (d .page) (w .header .«demote_at»), drain-count P n 64 0 64 (w .pages g) (omega arith) at))
 

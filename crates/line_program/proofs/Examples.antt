@@ -65,7 +65,7 @@ empty-input = refl
 -- ---- every letter, and every form of an answer
 
 letters : Prints
-    ("n 64 2 1" ∷ "i 5 50" ∷ "i 5 51" ∷ "g 5" ∷ "g 6" ∷ "r 6" ∷ "s 5" ∷ "f 6" ∷ "e 5 52" ∷ "e 6 60" ∷ "i 4294967295 7" ∷ "q 5 5" ∷ "q 68 69"
+    ("n 64 2 1" ∷ "i 5 50" ∷ "i 5 51" ∷ "g 5" ∷ "g 6" ∷ "r 6" ∷ "s 5" ∷ "f 6" ∷ "e 5 52" ∷ "e 6 60" ∷ "i 2147483647 7" ∷ "q 5 5" ∷ "q 68 69"
     ∷ "r 5" ∷ "d 0 63" ∷ "i 4 40" ∷ "b 256" ∷ "v 257" ∷ "i 3 30" ∷ "c" ∷ "l" ∷ [])
     ("n . 0 0 0 0" ∷ "i + 1 0 0 0" ∷ "i =50 1 0 0 0" ∷ "g 51 1 0 0 0" ∷ "g - 1 0 0 0" ∷ "r - 1 0 0 0" ∷ "s 5 1 0 0 0" ∷ "f 5 1 0 0 0"
     ∷ "e 51 1 0 0 0" ∷ "e - 1 0 0 0" ∷ "i + 2 0 0 0" ∷ "q - 2 0 0 0" ∷ "q 5 2 0 0 0"
@@ -87,6 +87,15 @@ fronts : Prints
     ∷ "a . 0 0 0 0" ∷ "i + 1 0 0 0" ∷ "t - 1 0 0 0" ∷ "?" ∷ "?" ∷ [])
 unfolding everything
 fronts = refl
+
+-- document 02, S-3: a number up to 4294967295 is a field, and 10 is "a sequence, first or last of 2147483648 or more"
+wide : Prints
+    ("n 64 2 1" ∷ "i 5 50" ∷ "i 2147483653 51" ∷ "g 2147483653" ∷ "e 2147483653 51" ∷ "r 2147483653" ∷ "s 4294967295" ∷ "f 2147483648" ∷ "d 5 2147483653"
+    ∷ "q 2147483648 2147483647" ∷ "g 4294967296" ∷ "l" ∷ [])
+    ("n . 0 0 0 0" ∷ "i + 1 0 0 0" ∷ "i !10 1 0 0 0" ∷ "g !10 1 0 0 0" ∷ "e !10 1 0 0 0" ∷ "r !10 1 0 0 0" ∷ "s !10 1 0 0 0" ∷ "f !10 1 0 0 0" ∷ "d !10 1 0 0 0"
+    ∷ "q !10 1 0 0 0" ∷ "?" ∷ "l 1 1 0 0 0 5:50" ∷ [])
+unfolding everything
+wide = refl
 
 -- l: pairs by pages, in a page by cells; 9 came before 5, and its cell serves 7
 listed : Prints

@@ -1,5 +1,5 @@
--- Document 01's listing, its edge cases marked * as one list, its traps, iter's reads, stranger's cases, the acknowledge point and the
--- order of refusals, by computation on the definitions. Assumes nothing.
+-- Document 01's listing, its edge cases marked * as one list, its traps, iter's reads, stranger's cases, the acknowledge point, numbers of
+-- more than 31 bits and the order of refusals, by computation on the definitions. Assumes nothing.
 use mathlib.Core.Path.{_≡_, refl}
 use mathlib.Core.Bool.{true, false}
 use mathlib.Core.Option.{some}
@@ -90,8 +90,6 @@ edge-cases : (m : Memory)
     -- window_size 65: 5 and 70 both enter, 133 after 5 is refused 4
     × (lines (afterNew 65 8 2) (insert 5 1 true ∷ insert 70 2 true ∷ insert 133 3 true ∷ [])
     ≡ line new 1 0 0 0 [] ∷ line new 2 0 0 0 [] ∷ line (refused 4) 2 0 0 0 [] ∷ [])
-    -- 5, then 2147483653: refused 4
-    × (lines (afterNew 64 8 2) (insert 5 1 true ∷ insert 2147483653 2 true ∷ []) ≡ line new 1 0 0 0 [] ∷ line (refused 4) 1 0 0 0 [] ∷ [])
     -- window_size 64: range 0..63 taken, 0..64 refused 5, 5..4 refused 5
     × (lines (afterNew 64 8 2) (insert 5 1 true ∷ remove-range 0 64 true ∷ remove-range 5 4 true ∷ remove-range 0 63 true ∷ [])
     ≡ line new 1 0 0 0 [] ∷ line (refused 5) 1 0 0 0 [] ∷ line (refused 5) 1 0 0 0 [] ∷ line (found 1) 0 0 0 0 (1 ∷ []) ∷ [])
@@ -110,7 +108,7 @@ edge-cases : (m : Memory)
     × (lines (after (afterNew 512 8 0) (insertsFrom 0 512 ++ clear true ∷ [])) (insert 100 1 true ∷ insert 250 2 true ∷ [])
     ≡ line new 1 260 8 0 [] ∷ line new 2 256 8 0 (from 252 4) ∷ [])
 unfolding limits firstFrom firstRound bitAt withBit countBelow span wordBelow lowest capacity freshHeader freshWindow rangeCount distance sum heldInRange searchFrom cellOf freeCell promoted nthSet packed insertPage drainPage noteNonempty splitBlock releasePage nextRetired releaseUnits revive removeSlots retireInBlock retireBlock retireBlocks retirePages retireStretch retireRange retireAll releasePages insertStep rangeStep clearStep clearBoundedStep releaseStep windowDoes
-edge-cases m = (refused-by 0 m 0 8 2 refl, taken m 65536 8 2 refl, refused-by 0 m 65537 8 2 refl, taken m 64 63 0 refl, refused-by 1 m 64 64 0 refl, taken m 64 8 8 refl, refused-by 2 m 64 8 9 refl, refl, refl, refl, refl, refl, refl, refl, refl)
+edge-cases m = (refused-by 0 m 0 8 2 refl, taken m 65536 8 2 refl, refused-by 0 m 65537 8 2 refl, taken m 64 63 0 refl, refused-by 1 m 64 64 0 refl, taken m 64 8 8 refl, refused-by 2 m 64 8 9 refl, refl, refl, refl, refl, refl, refl, refl)
 
 -- ---- the traps
 
@@ -153,12 +151,12 @@ reads :
 unfolding firstFrom firstRound bitAt withBit countBelow span wordBelow lowest capacity freshHeader freshWindow rangeCount distance sum heldInRange searchFrom cellOf freeCell promoted nthSet packed insertPage drainPage noteNonempty splitBlock releasePage nextRetired releaseUnits revive removeSlots retireInBlock retireBlock retireBlocks retirePages retireStretch retireRange retireAll releasePages insertStep rangeStep clearStep clearBoundedStep releaseStep windowDoes iterStep exchangeStep removeStep
 reads = (refl, refl)
 
--- ---- stranger: none in an empty window, none in its own range, an alias, a set top bit
+-- ---- stranger: none in an empty window, none in its own range, an alias; 2147483647 in a range that passes it, and before one
 
 strangers :
-    lines (afterNew 64 8 2) (ask (stranger 5 5) ∷ insert 5 50 true ∷ ask (stranger 5 5) ∷ ask (stranger 4 6) ∷ ask (stranger 69 69) ∷ remove 5 ∷ insert 2147483653 51 true ∷ ask (stranger 5 5) ∷ ask (stranger 6 9) ∷ [])
+    lines (afterNew 64 8 2) (ask (stranger 5 5) ∷ insert 5 50 true ∷ ask (stranger 5 5) ∷ ask (stranger 4 6) ∷ ask (stranger 69 69) ∷ remove 5 ∷ insert 2147483647 51 true ∷ ask (stranger 2147483647 0) ∷ ask (stranger 63 63) ∷ ask (stranger 0 62) ∷ [])
     ≡ line absent 0 0 0 0 [] ∷ line new 1 0 0 0 [] ∷ line absent 1 0 0 0 [] ∷ line absent 1 0 0 0 [] ∷ line (pair 5 50 0 0) 1 0 0 0 []
-    ∷ line (found 50) 0 0 0 0 [] ∷ line new 1 0 0 0 [] ∷ line (pair 2147483653 51 0 0) 1 0 0 0 [] ∷ line absent 1 0 0 0 [] ∷ []
+    ∷ line (found 50) 0 0 0 0 [] ∷ line new 1 0 0 0 [] ∷ line absent 1 0 0 0 [] ∷ line (pair 2147483647 51 0 0) 1 0 0 0 [] ∷ line absent 1 0 0 0 [] ∷ []
 unfolding firstFrom firstRound bitAt withBit countBelow span wordBelow lowest capacity freshHeader freshWindow rangeCount distance sum heldInRange searchFrom cellOf freeCell promoted nthSet packed insertPage drainPage noteNonempty splitBlock releasePage nextRetired releaseUnits revive removeSlots retireInBlock retireBlock retireBlocks retirePages retireStretch retireRange retireAll releasePages insertStep rangeStep clearStep clearBoundedStep releaseStep windowDoes removeStep strangerIn
 strangers = refl
 
@@ -186,8 +184,8 @@ points :
     ≡ acknowledges done 2147483647 2147483647 ∷ acknowledges new 2147483647 2147483647 ∷ acknowledges new 2147483647 1 ∷ acknowledges (found 1) 2147483647 0
     ∷ acknowledges (found 2) 0 0 ∷ acknowledges absent 0 0 ∷ [])
     -- a base with the top bit is refused; an alias is not live; a refused insert leaves the point
-    × (acknowledged (afterNew 64 2 1) (set-base 2147483648 ∷ insert 2147483648 7 true ∷ insert 0 8 true ∷ take-front ∷ [])
-    ≡ acknowledges (refused 9) 0 0 ∷ acknowledges new 0 0 ∷ acknowledges (refused 4) 0 0 ∷ acknowledges absent 0 0 ∷ [])
+    × (acknowledged (afterNew 64 2 1) (set-base 2147483648 ∷ insert 2147483648 7 true ∷ insert 64 7 true ∷ insert 0 8 true ∷ take-front ∷ [])
+    ≡ acknowledges (refused 9) 0 0 ∷ acknowledges (refused 10) 0 0 ∷ acknowledges new 0 0 ∷ acknowledges (refused 4) 0 0 ∷ acknowledges absent 0 0 ∷ [])
     -- window_size 1: all its sequences are live, and the point is live too; the base set back and forth
     × (acknowledged (afterNew 1 8 2) (insert 0 1 true ∷ insert 1 2 true ∷ take-front ∷ set-base 0 ∷ set-base 1 ∷ [])
     ≡ acknowledges new 0 1 ∷ acknowledges new 0 1 ∷ acknowledges (found 1) 1 2 ∷ acknowledges done 0 0 ∷ acknowledges done 1 2 ∷ [])
@@ -197,18 +195,34 @@ points :
 unfolding reach firstFrom firstRound bitAt withBit countBelow span wordBelow lowest capacity freshHeader freshWindow rangeCount distance sum heldInRange searchFrom cellOf freeCell promoted nthSet packed insertPage drainPage noteNonempty splitBlock releasePage nextRetired releaseUnits revive removeSlots retireInBlock retireBlock retireBlocks retirePages retireStretch retireRange retireAll releasePages insertStep rangeStep clearStep clearBoundedStep releaseStep windowDoes removeStep frontStep
 points = (refl, refl, refl, refl)
 
--- ---- the order of the refusals for arguments: 6, then 5, 8 or 9
+-- ---- document 02, S-3: a number with the top bit set is refused by every call that takes a sequence, and nothing is altered; a base
+-- keeps 9; 2147483647 is taken
+
+wire-numbers : lines (afterNew 64 8 2)
+    (insert 5 50 true ∷ insert 2147483653 51 true ∷ ask (get 2147483653) ∷ exchange 2147483653 52 ∷ remove 2147483653 ∷ ask (successor-after 2147483653)
+    ∷ ask (first-from 2147483653) ∷ remove-range 2147483653 5 true ∷ remove-range 5 2147483653 true ∷ ask (stranger 2147483653 5) ∷ ask (stranger 5 2147483653) ∷ set-base 2147483653
+    ∷ ask (iter 2147483653) ∷ insert 2147483647 53 true ∷ ask (get 2147483647) ∷ remove 2147483647 ∷ ask (get 5) ∷ ask check ∷ [])
+    ≡ line new 1 0 0 0 [] ∷ line (refused 10) 1 0 0 0 [] ∷ line (refused 10) 1 0 0 0 [] ∷ line (refused 10) 1 0 0 0 [] ∷ line (refused 10) 1 0 0 0 [] ∷ line (refused 10) 1 0 0 0 []
+    ∷ line (refused 10) 1 0 0 0 [] ∷ line (refused 10) 1 0 0 0 [] ∷ line (refused 10) 1 0 0 0 [] ∷ line (refused 10) 1 0 0 0 [] ∷ line (refused 10) 1 0 0 0 [] ∷ line (refused 9) 1 0 0 0 []
+    ∷ line (ended 0) 1 0 0 0 [] ∷ line new 2 0 0 0 [] ∷ line (found 53) 2 0 0 0 [] ∷ line (found 53) 1 0 0 0 [] ∷ line (found 50) 1 0 0 0 [] ∷ line done 1 0 0 0 [] ∷ []
+unfolding firstFrom firstRound bitAt withBit countBelow span wordBelow lowest capacity freshHeader freshWindow rangeCount distance sum heldInRange searchFrom cellOf freeCell promoted nthSet packed insertPage drainPage noteNonempty splitBlock releasePage nextRetired releaseUnits revive removeSlots insertStep exchangeStep removeStep windowDoes iterStep
+wire-numbers = refl
+
+-- ---- the order of the refusals for arguments: 6, then 10, then 5, 8 or 9
 
 order :
-    (argumentRefusal (known 64) (insert 5 1 false) ≡ 6) × (argumentRefusal (known 64) (insert 5 1 true) ≡ 0)
-    × (argumentRefusal (known 64) (exchange 5 1) ≡ 0) × (argumentRefusal (known 64) (remove 5) ≡ 0)
-    × (argumentRefusal (known 64) (remove-range 0 64 false) ≡ 6) × (argumentRefusal (known 64) (remove-range 0 64 true) ≡ 5) × (argumentRefusal (known 64) (remove-range 0 63 true) ≡ 0)
+    (argumentRefusal (known 64) (insert 2147483648 1 false) ≡ 6) × (argumentRefusal (known 64) (insert 2147483648 1 true) ≡ 10) × (argumentRefusal (known 64) (insert 2147483647 1 true) ≡ 0)
+    × (argumentRefusal (known 64) (exchange 2147483648 1) ≡ 10) × (argumentRefusal (known 64) (exchange 2147483647 1) ≡ 0) × (argumentRefusal (known 64) (remove 2147483648) ≡ 10) × (argumentRefusal (known 64) (remove 2147483647) ≡ 0)
+    × (argumentRefusal (known 64) (remove-range 2147483648 2147483647 false) ≡ 6) × (argumentRefusal (known 64) (remove-range 2147483648 2147483647 true) ≡ 10) × (argumentRefusal (known 64) (remove-range 0 2147483648 true) ≡ 10)
+    × (argumentRefusal (known 64) (remove-range 0 64 false) ≡ 6) × (argumentRefusal (known 64) (remove-range 0 64 true) ≡ 5) × (argumentRefusal (known 64) (remove-range 0 63 true) ≡ 0) × (argumentRefusal (known 64) (remove-range 2147483647 0 true) ≡ 0)
     × (argumentRefusal (known 64) (clear false) ≡ 6) × (argumentRefusal (known 64) (clear true) ≡ 0)
     × (argumentRefusal (known 64) (clear-bounded 257 false) ≡ 6) × (argumentRefusal (known 64) (clear-bounded 257 true) ≡ 8) × (argumentRefusal (known 64) (clear-bounded 256 true) ≡ 0)
     × (argumentRefusal (known 64) (release-retired 257 false) ≡ 6) × (argumentRefusal (known 64) (release-retired 257 true) ≡ 8) × (argumentRefusal (known 64) (release-retired 256 true) ≡ 0)
     × (argumentRefusal (known 64) (set-base 2147483648) ≡ 9) × (argumentRefusal (known 64) (set-base 2147483647) ≡ 0) × (argumentRefusal (known 64) take-front ≡ 0)
-    × (argumentRefusal (known 64) (ask (get 5)) ≡ 0) × (argumentRefusal (known 64) (ask (successor-after 5)) ≡ 0) × (argumentRefusal (known 64) (ask (first-from 5)) ≡ 0)
-    × (argumentRefusal (known 64) (ask (iter 64)) ≡ 0) × (argumentRefusal (known 64) (ask check) ≡ 0)
-    × (argumentRefusal (known 64) (ask (stranger 5 4)) ≡ 5) × (argumentRefusal (known 64) (ask (stranger 0 63)) ≡ 0)
+    × (argumentRefusal (known 64) (ask (get 2147483648)) ≡ 10) × (argumentRefusal (known 64) (ask (get 2147483647)) ≡ 0)
+    × (argumentRefusal (known 64) (ask (successor-after 2147483648)) ≡ 10) × (argumentRefusal (known 64) (ask (successor-after 2147483647)) ≡ 0)
+    × (argumentRefusal (known 64) (ask (first-from 2147483648)) ≡ 10) × (argumentRefusal (known 64) (ask (first-from 2147483647)) ≡ 0)
+    × (argumentRefusal (known 64) (ask (iter 2147483648)) ≡ 0) × (argumentRefusal (known 64) (ask check) ≡ 0)
+    × (argumentRefusal (known 64) (ask (stranger 2147483648 2147483647)) ≡ 10) × (argumentRefusal (known 64) (ask (stranger 5 2147483653)) ≡ 10) × (argumentRefusal (known 64) (ask (stranger 5 4)) ≡ 5) × (argumentRefusal (known 64) (ask (stranger 0 63)) ≡ 0)
 unfolding rangeCount distance
-order = (refl, refl, refl, refl, refl, refl, refl, refl, refl, refl, refl, refl, refl, refl, refl, refl, refl, refl, refl, refl, refl, refl, refl, refl, refl)
+order = (refl, refl, refl, refl, refl, refl, refl, refl, refl, refl, refl, refl, refl, refl, refl, refl, refl, refl, refl, refl, refl, refl, refl, refl, refl, refl, refl, refl, refl, refl, refl, refl, refl, refl, refl, refl, refl)

@@ -4,22 +4,23 @@ use mathlib.Core.Path.{_≡_, refl, sym, ap, _∙_, subst}
 use mathlib.Core.Bool.{Bool, true, false, cond}
 use mathlib.Core.Option.{Option, none, some, Option·some-injective}
 use mathlib.Core.List.{List, [], _++_}
-use Prim.Native.Nat.{ℕ, zero, suc, _+_, _-_, _*_, _/_, _^_, _≤_, _<_}
+use Prim.Native.Nat.{ℕ, zero, suc, _+_, _-_, _*_, _/_, _≤_, _<_}
 use native.Mathlib.Omega.{arith}
 use lib.Dec.{leb, ltb, eqb}
 use lib.ListN.{length}
-use borrow.Author.Tests.{eqb-true, leb-true, ltb-true, le-leb}
+use borrow.Author.Tests.{eqb-true, leb-true, le-leb}
 use Rattle.words.proofs.CaseLaws.{bool}
 use Rattle.window.specs.Memory.{capacity, pageCount, position}
 use Rattle.window.proofs.MemoryLaws.{capacity-pages, position-lt}
 use Rattle.model.specs.Calls.{Call, insert, exchange, remove, remove-range, clear, clear-bounded, release-retired, set-base, take-front, ask, Answer, done, found, refused}
-use Rattle.model.specs.Table.{Pair, Table, fresh, at, held, finds, valueIf, sequenceAt, putAt, putAnswer, exchangeAt, removeAt, rangeCount, covers, heldInRange, Known, known, argumentRefusal, withPairs, withBase, Outcome, outcome, tableAnswer, tableStep, tableDoes, unlessRefused as unlessInTable}
+use Rattle.model.specs.Table.{Pair, Table, fresh, at, held, finds, valueIf, sequenceAt, putAt, putAnswer, exchangeAt, removeAt, rangeCount, covers, heldInRange, known, argumentRefusal, withPairs, withBase, Outcome, outcome, tableAnswer, tableStep, tableDoes, unlessRefused as unlessInTable}
 use Rattle.model.specs.Roles.{roleOf, toldOf, given, unlessRefused, ifFound}
 use Rattle.model.specs.Demand3.{times, lost}
 use Rattle.model.specs.Positions.{Positions, positions, plain, drain, release, wipe, moved, sweepRange, Result, result, stays, unlessRefused as unlessAtPositions, retiredCount, step, does, freshPositions}
 use Rattle.model.proofs.SumLaws.{at-other, sum-at, weigh, weight, equals, held-le, total-times, times-append, weight-fresh, weight-same, total-lost}
 use Rattle.model.proofs.DrainLaws.{drain-keeps, drain-inside, drain-less}
 use Rattle.model.proofs.ReleaseLaws.{release-keeps, release-less, release-halves, release-cursor}
+use Rattle.model.proofs.RefusalLaws.{range-taken}
 use Rattle.model.proofs.SweepLaws.{wipe-in, moved-keeps, range-live, range-apart, range-keeps}
 
 -- ---- one position: what is accepted and was there, is there after or handed back
@@ -53,14 +54,6 @@ at-apart t u p o h k q = bool (eqb q p) (λ i. rw i (rw (eqb-true q p i) k)) (λ
 pub count-some : (a b : ℕ) → 0 < rangeCount a b
 unfolding rangeCount
 count-some a b = omega arith
-
--- a range that is not refused has at most window_size positions
-pub range-taken : (size a b : ℕ) (l : Bool) → argumentRefusal (known size) (remove-range a b l) ≡ 0 → leb (rangeCount a b) size ≡ true
-range-taken size a b true z = bool (leb (rangeCount a b) size) (λ e. e) (λ e. absurd (omega (arith, rw e at z)))
-range-taken size a b false z = absurd (omega (arith, z))
-
-pub base-taken : (k : Known) (s : ℕ) → argumentRefusal k (set-base s) ≡ 0 → s < 2 ^ 31
-base-taken k s z = bool (ltb s (2 ^ 31)) (λ e. ltb-true s (2 ^ 31) e) (λ e. absurd (omega (arith, rw e at z)))
 
 cond-none : (b : Bool) (o : Option Pair) → o ≡ none → cond b none o ≡ none
 cond-none true o e = refl
@@ -311,7 +304,7 @@ module _ (size : ℕ) where
     kept-does small (insert s v l) z = kept-insert s v l
     kept-does small (exchange s v) z = kept-exchange s v
     kept-does small (remove s) z = kept-taken (remove s) s (w .base) (λ a. refl) refl (λ a. refl) (λ a. refl)
-    kept-does small (remove-range a b l) z = kept-range small a b l (range-taken size a b l z)
+    kept-does small (remove-range a b l) z = kept-range small a b l (range-taken (known size) a b l z)
     kept-does small (clear l) z = kept-clear l
     kept-does small (clear-bounded n l) z = kept-bounded n l
     kept-does small (release-retired b l) z = kept-release b l

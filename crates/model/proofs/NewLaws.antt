@@ -122,6 +122,7 @@ module _ (size n d : ℕ) (m : Memory) where
     filled-by = λ j l u. absurd (let z : bitAt 0 j ≡ 1 = ap (λ (x : ℕ). bitAt x j) (sym (no-occupied g)) ∙ u in omega (arith, bit-none j));
     once = λ c e l k u. absurd (not-used g c u);
     here = λ c l u. absurd (not-used g c u);
+    wire = λ c l u. absurd (not-used g c u);
     sparse = λ e c l u. absurd (not-used g c u);
     dense-words = λ e. no-filled g ∙ sym (no-occupied g);
     dense-cells = λ e c l u. absurd (not-used g c u);

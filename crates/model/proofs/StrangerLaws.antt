@@ -5,7 +5,7 @@ use mathlib.Core.Option.{Option, none, some}
 use mathlib.Core.Logic.{inl, inr}
 use Prim.Native.Nat.{ℕ, _≤_, _<_}
 use native.Mathlib.Omega.{arith}
-use lib.Dec.{leb, ltb}
+use lib.Dec.{ltb}
 use borrow.Author.Tests.{ltb-true, ltb-false}
 use Rattle.words.proofs.CaseLaws.{bool, both}
 use Rattle.words.specs.First.{firstRound}
@@ -13,9 +13,9 @@ use Rattle.words.proofs.FirstLaws.{round-le, round-held, round-none}
 use Rattle.window.specs.Memory.{position}
 use Rattle.window.proofs.MemoryLaws.{position-lt}
 use Rattle.model.specs.Calls.{stranger, ask, Answer, done, new, replaced, absent, found, pair, ended, released, refused}
-use Rattle.model.specs.Table.{Pair, pairOf, rangeCount, covers, isStranger, pairAnswer, strangerIn}
+use Rattle.model.specs.Table.{Pair, pairOf, rangeCount, covers, isStranger, pairAnswer, strangerIn, argumentRefusal}
 use Rattle.model.specs.Window.{Window, sizeOf, capacityOf, liveAt}
-use Rattle.model.specs.Steps.{windowStep, windowDoes}
+use Rattle.model.specs.Steps.{knownBy, windowStep, windowDoes}
 use Rattle.model.specs.Strangers.{StrangerAt, Tells}
 
 -- the pair of an answer, if it is one
@@ -76,7 +76,7 @@ module _ (w : Window) (first last : ℕ) where
       let e : q ≡ capacityOf w = omega (arith, ltb-false q (capacityOf w) i, round-le P (capacityOf w) start low) in
       rw i (tells-none (round-none P (capacityOf w) start low e)))
 
-  -- the call, where its count is not refused
-  pub stranger-tells : leb (rangeCount first last) (sizeOf w) ≡ true → Tells w first last (windowStep w (ask (stranger first last)) .answer)
+  -- the call, where it is not refused
+  pub stranger-tells : argumentRefusal (knownBy (w .header)) (ask (stranger first last)) ≡ 0 → Tells w first last (windowStep w (ask (stranger first last)) .answer)
   unfolding windowDoes
-  stranger-tells taken = rw taken tells
+  stranger-tells z = rw z tells

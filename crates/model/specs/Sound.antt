@@ -28,6 +28,8 @@ pub record SoundPage (n cap g : ℕ) (p : Page) : Type 0 where
   pub filled-by : (j : ℕ) → j < 64 → bitAt (p .occupied) j ≡ 1 → (c : ℕ) × (c < 64) × Used p c × (p .sequences c % 64 ≡ j)
   pub once : (c d : ℕ) → c < 64 → d < 64 → Used p c → Used p d → p .sequences c % 64 ≡ p .sequences d % 64 → c ≡ d
   pub here : (c : ℕ) → c < 64 → Used p c → p .sequences c % cap / 64 ≡ g
+  -- document 02, S-3, on numbers with the top bit set: "check allows none in a cell in use"
+  pub wire : (c : ℕ) → c < 64 → Used p c → p .sequences c < 2 ^ 31
   -- "sparse fills only the first N"
   pub sparse : p .kind ≡ 1 → (c : ℕ) → c < 64 → Used p c → c < n
   -- "dense has filled = occupied and each filled cell's sequence at that cell's position"

@@ -5,6 +5,7 @@ use Prim.Native.Nat.{ℕ, zero, suc, _+_, _-_, _%_, _^_}
 use lib.Dec.{leb, ltb, eqb}
 use Rattle.words.specs.First.{firstRound}
 use Rattle.window.specs.Memory.{capacity, position}
+use Rattle.window.specs.Refusals.{isWireNumber}
 use Rattle.model.specs.Calls.{Query, get, successor-after, first-from, iter, stranger, check, Call, insert, exchange, remove, remove-range, clear, clear-bounded, release-retired, set-base, take-front, ask, Answer, done, new, replaced, absent, found, pair, refused}
 use Rattle.model.specs.Roles.{Arguments, no-argument, sequence-argument, range-argument, number-argument, base-argument, roleOf}
 
@@ -116,10 +117,11 @@ searchFrom cap t p =
 
 -- ---- stranger
 
--- a sequence's "distance from first (as in count, less 1) is count or more, or whose top bit is set"
+-- a sequence's "distance from first (as in count, less 1) is count or more". (Document 02, S-3: "stranger's clause on the top bit"
+-- goes.)
 abbrev pub isStranger : ℕ → ℕ → Option Pair → Bool
 isStranger first count none = false
-isStranger first count (some e) = leb (count + 1) (rangeCount first (e .sequence)) || leb (2 ^ 31) (e .sequence)
+isStranger first count (some e) = leb count (distance first (e .sequence))
 
 abbrev pub pairAnswer : Option Pair → Answer
 pairAnswer none = absent
@@ -147,12 +149,24 @@ first k taken rest = cond taken rest k
 
 -- "remove_range, stranger: then 5 for a count above window_size"; "release_retired, clear_bounded: then 8 for a number above 256".
 -- "9, a base of 2147483648 or more, after 6". (Insert's 4 is decided by the window.)
+abbrev pub limitRefusal : Known → Arguments → ℕ
+limitRefusal k no-argument = 0
+limitRefusal k (sequence-argument s) = 0
+limitRefusal k (range-argument a b) = first 5 (leb (rangeCount a b) (k .size)) 0
+limitRefusal k (number-argument n) = first 8 (leb n 256) 0
+limitRefusal k (base-argument s) = first 9 (isWireNumber s) 0
+
+-- whether "a sequence, first or last" are wire numbers (document 02, S-3). A base is none of them: the call that sets it "keeps 9"
+abbrev pub areWireNumbers : Arguments → Bool
+areWireNumbers no-argument = true
+areWireNumbers (sequence-argument s) = isWireNumber s
+areWireNumbers (range-argument a b) = isWireNumber a && isWireNumber b
+areWireNumbers (number-argument n) = true
+areWireNumbers (base-argument s) = true
+
+-- "10, a sequence, first or last of 2147483648 or more, after 6 and before 4, 5 and 8"
 abbrev pub refusedFor : Known → Arguments → ℕ
-refusedFor k no-argument = 0
-refusedFor k (sequence-argument s) = 0
-refusedFor k (range-argument a b) = first 5 (leb (rangeCount a b) (k .size)) 0
-refusedFor k (number-argument n) = first 8 (leb n 256) 0
-refusedFor k (base-argument s) = first 9 (ltb s (2 ^ 31)) 0
+refusedFor k a = first 10 (areWireNumbers a) (limitRefusal k a)
 
 -- "a return list of at least 384"
 abbrev pub hasPlaces : Option Bool → Bool

@@ -13,7 +13,7 @@ use Rattle.model.specs.Pages.{setValue}
 use Rattle.model.specs.Sound.{Used, SoundPage}
 use Rattle.page_base.specs.Page.{Placed}
 use Rattle.page_base.specs.Contracts.{exchanged}
-use Rattle.page_base.proofs.PlaceLaws.{placed, sound-of}
+use Rattle.page_base.proofs.PlaceLaws.{placed, all-here, sound-of}
 use Rattle.page_base.proofs.StandLaws.{In, stands-cell, stands-same}
 use Rattle.page_base.proofs.ReadLaws.{Found, found-cell, finds-at}
 
@@ -94,5 +94,5 @@ module _ (n : ℕ) (p : Page) (ok : Placed n p) (v : ℕ) where
 pub exchange-sound : (n cap g : ℕ) (p : Page) (s v : ℕ) → SoundPage n cap g p → SoundPage n cap g (exchanged p s v)
 exchange-sound n cap g p s v sound =
     exchange-cases p s v (SoundPage n cap g)
-    (λ t c f. sound-of n cap g (setValue p c v) (value-placed n p c v (placed n cap g p sound)) (sound .some-occupied) (sound .here))
+    (λ t c f. sound-of n cap g (setValue p c v) (value-placed n p c v (placed n cap g p sound)) (sound .some-occupied) (all-here n cap g p sound))
     (λ t. sound)

@@ -33,9 +33,12 @@ placed n cap g p s = record {
   filled-fits = s .filled-fits;
 }
 
+pub all-here : (n cap g : ℕ) (p : Page) → SoundPage n cap g p → Here cap g p
+all-here n cap g p s c l u = (s .here c l u, s .wire c l u)
+
 -- the other way
 pub sound-of : (n cap g : ℕ) (p : Page) → Placed n p → ((p .kind ≡ 0 → ⊥) → p .occupied ≡ 0 → ⊥) → Here cap g p → SoundPage n cap g p
-sound-of n cap g p ok nonempty of-page = record {
+sound-of n cap g p ok nonempty here = record {
   kinds = ok .kinds;
   none-occupied = ok .none-occupied;
   none-filled = ok .none-filled;
@@ -43,7 +46,8 @@ sound-of n cap g p ok nonempty of-page = record {
   named = ok .named;
   filled-by = ok .filled-by;
   once = ok .once;
-  here = of-page;
+  here = λ c l u. here c l u .0;
+  wire = λ c l u. here c l u .1;
   sparse = ok .sparse;
   dense-words = ok .dense-words;
   dense-cells = ok .dense-cells;

@@ -63,6 +63,10 @@ pub record Placed (n : ℕ) (p : Page) : Type 0 where
   pub occupied-fits : p .occupied < 2 ^ 64
   pub filled-fits : p .filled < 2 ^ 64
 
--- "all of this page": every cell in use holds a sequence of page g of a window of this capacity
+-- a sequence that page g of a window of this capacity may hold: of "this page", and of 31 bits (document 02, S-3)
+abbrev pub OfPage : (cap g s : ℕ) → Type 0
+OfPage cap g s = (s % cap / 64 ≡ g) × (s < 2 ^ 31)
+
+-- every cell in use holds such a sequence
 abbrev pub Here : ℕ → ℕ → Page → Type 0
-Here cap g p = (c : ℕ) → c < 64 → Used p c → p .sequences c % cap / 64 ≡ g
+Here cap g p = (c : ℕ) → c < 64 → Used p c → OfPage cap g (p .sequences c)

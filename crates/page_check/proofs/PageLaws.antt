@@ -16,7 +16,7 @@ use Rattle.page_check.proofs.DecideLaws.{decides-same, decides-eq}
 module _ (n cap g : ℕ) (w : PageWords) (ss vs : List ℕ) where
   cells-of : SoundPage n cap g (page w ss vs) → SoundCells n cap g w (cells ss)
   cells-of ok = record {
-    cell = λ c l u. record { here = ok .here c l u; sparse = λ k. ok .sparse k c l u; dense = λ k. ok .dense-cells k c l u };
+    cell = λ c l u. record { wire = ok .wire c l u; here = ok .here c l u; sparse = λ k. ok .sparse k c l u; dense = λ k. ok .dense-cells k c l u };
     named = ok .named;
     filled-by = ok .filled-by;
     once = ok .once;
@@ -34,6 +34,7 @@ module _ (n cap g : ℕ) (w : PageWords) (ss vs : List ℕ) where
       filled-by = ok .filled-by;
       once = ok .once;
       here = λ c l u. ok .cell c l u .here;
+      wire = λ c l u. ok .cell c l u .wire;
       sparse = λ k c l u. ok .cell c l u .sparse k;
       dense-words = dense-words;
       dense-cells = λ k c l u. ok .cell c l u .dense k;

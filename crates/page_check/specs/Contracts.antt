@@ -3,7 +3,7 @@
 use mathlib.Core.Path.{_≡_}
 use mathlib.Core.Bool.{Bool, true, false}
 use mathlib.Core.List.{List}
-use Prim.Native.Nat.{ℕ, _/_, _%_, _<_}
+use Prim.Native.Nat.{ℕ, _/_, _%_, _^_, _<_}
 use Rattle.words.specs.Word.{bitAt}
 use Rattle.window.specs.Memory.{capacity}
 use Rattle.model.specs.Sound.{SoundPage}
@@ -21,6 +21,8 @@ pub record DecidesPage (n size g : ℕ) (w : PageWords) (ss : List ℕ) (r : Boo
 
 -- what a sound page asks of one cell in use, cell c of a page of this kind, which holds sequence s
 pub record SoundCell (n cap g kind c s : ℕ) : Type 0 where
+  -- document 02, S-3: no number with the top bit set
+  pub wire : s < 2 ^ 31
   -- "all of this page"
   pub here : s % cap / 64 ≡ g
   -- "sparse fills only the first N"

@@ -2,6 +2,7 @@
 use page_base::PageWords;
 use window::memory::PAGE_SLOTS;
 use window::memory::position;
+use window::refusals::is_wire_number;
 ghost use mathlib.Core.Path.{_≡_};
 ghost use Prim.Native.Nat.{_≤_};
 ghost use lib.ListN.{length};
@@ -9,12 +10,15 @@ ghost use Rattle.window.specs.Memory.{capacity};
 ghost use Rattle.page_base.specs.Page.{cells};
 ghost use Rattle.page_check.specs.Contracts.{Decides, SoundCell, SoundCells, DecidesPage};
 
-// Whether cell `c`, which is in use and holds this sequence, may do so: "all of this page"; "sparse fills only the first N"; dense
-// has "each filled cell's sequence at that cell's position".
+// Whether cell `c`, which is in use and holds this sequence, may do so: 31 bits; "all of this page"; "sparse fills only the first N";
+// dense has "each filled cell's sequence at that cell's position".
 fn cell_sound(kind: u64, n: usize, window_size: u32, page: usize, c: usize, sequence: u32) -> bool
     requires { ⌜ (1 ≤ kind) × (kind ≤ 2) × («window_size» ≤ 65536) ⌝ }
     ensures { λ r. ⌜ Decides (SoundCell n (capacity «window_size») page kind c sequence) r ⌝ }
 {
+    if !is_wire_number(sequence) {
+        return false;
+    }
     if position(window_size, sequence) / PAGE_SLOTS != page {
         return false;
     }

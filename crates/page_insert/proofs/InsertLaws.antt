@@ -14,10 +14,10 @@ use Rattle.model.specs.Table.{Pair, pairOf, held, putAt, putAnswer}
 use Rattle.model.specs.Window.{Page, cellOf, pairIn, standsAt}
 use Rattle.model.specs.Sound.{SoundPage}
 use Rattle.model.specs.Pages.{Inserted, inserted, putCell, setValue, promoted, insertPage}
-use Rattle.page_base.specs.Page.{Placed, Here}
+use Rattle.page_base.specs.Page.{Placed, OfPage, Here}
 use Rattle.page_base.proofs.ExchangeLaws.{value-placed}
 use Rattle.page_base.proofs.StandLaws.{stands-in, stands-out, stands-none}
-use Rattle.page_base.proofs.PlaceLaws.{cell-some, cell-used, cell-occupied, cell-le, placed, sound-of}
+use Rattle.page_base.proofs.PlaceLaws.{cell-some, cell-used, cell-occupied, cell-le, placed, all-here, sound-of}
 use Rattle.page_insert.specs.Insert.{freeOf}
 use Rattle.page_insert.proofs.FreeLaws.{free-clear}
 use Rattle.page_insert.proofs.CaseLaws.{over-same, over-other, new-dense, new-sparse, new-promoted, page-over, page-new, some-free}
@@ -63,7 +63,7 @@ pub record Leaves (n : ℕ) (p : Page) (s v : ℕ) (i : Inserted) : Type 0 where
   pub dense : i .page .kind ≡ 2 → (p .kind ≡ 2 → ⊥) → n < count (i .page .occupied)
   pub in-place : Placed n (i .page)
   pub taken : bitAt (i .page .occupied) (s % 64) ≡ 1
-  pub here : (cap g : ℕ) → s % cap / 64 ≡ g → Here cap g p → Here cap g (i .page)
+  pub here : (cap g : ℕ) → OfPage cap g s → Here cap g p → Here cap g (i .page)
 
 -- at an occupied position
 module _ (n : ℕ) (p : Page) (s v : ℕ) (ok : Placed n p) (l : cellOf p (s % 64) < 64) where
@@ -195,7 +195,7 @@ module _ (n : ℕ) (p : Page) (s v : ℕ) (ok : Placed n p) (l : n < 64) where
   ]
 
 -- a sound page stays sound
-pub insert-sound : (n cap g s v : ℕ) (p : Page) → SoundPage n cap g p → s % cap / 64 ≡ g → n < 64 → SoundPage n cap g (insertPage n p s v .page)
+pub insert-sound : (n cap g s v : ℕ) (p : Page) → SoundPage n cap g p → OfPage cap g s → n < 64 → SoundPage n cap g (insertPage n p s v .page)
 insert-sound n cap g s v p ok e l =
     let i = insert-leaves n p s v (placed n cap g p ok) l in
-    sound-of n cap g _ (i .in-place) (λ k z. omega (arith, i .taken, ap (λ (w : ℕ). bitAt w (s % 64)) z, bit-none (s % 64))) (i .here cap g e (ok .here))
+    sound-of n cap g _ (i .in-place) (λ k z. omega (arith, i .taken, ap (λ (w : ℕ). bitAt w (s % 64)) z, bit-none (s % 64))) (i .here cap g e (all-here n cap g p ok))

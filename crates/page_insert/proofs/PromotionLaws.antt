@@ -58,7 +58,7 @@ module _ (n : ℕ) (p : Page) (ok : Placed n p) where
   unfolding promoted
   promoted-here cap g h c l u =
       let m = inside c l u in
-      ap (λ (q : ℕ). q % cap / 64) (moved c l u) ∙ h (cellOf p c) m (cell-used p c m .0)
+      rw (moved c l u) (h (cellOf p c) m (cell-used p c m .0))
 
   -- promotion moves no value
   pub promoted-stands : (j : ℕ) → j < 64 → standsAt (promoted p) j ≡ standsAt p j

@@ -15,7 +15,7 @@ use Rattle.model.specs.Table.{Pair, pairOf, putAt}
 use Rattle.model.specs.Window.{Page, standsAt}
 use Rattle.model.specs.Sound.{Used}
 use Rattle.model.specs.Pages.{putCell}
-use Rattle.page_base.specs.Page.{Placed, Here}
+use Rattle.page_base.specs.Page.{Placed, OfPage, Here}
 use Rattle.page_base.proofs.StandLaws.{stands-in, stands-none}
 use Rattle.page_base.proofs.PlaceLaws.{cell-at, few-cells}
 
@@ -123,10 +123,10 @@ module _ (n k c s v : ℕ) (p : Page) (ok : Placed n p) (room : Room n k c s p) 
     filled-fits = with-lt 64 (p .filled) c 1 (ok .filled-fits) (room .inside) (omega arith);
   }
 
-  pub put-here : (cap g : ℕ) → s % cap / 64 ≡ g → Here cap g p → Here cap g after
+  pub put-here : (cap g : ℕ) → OfPage cap g s → Here cap g p → Here cap g after
   put-here cap g e h d l u = elim (ℕ-discrete d c) [
-    | yes x ↦ ap (λ (q : ℕ). q % cap / 64) (own d x) ∙ e
-    | no x ↦ ap (λ (q : ℕ). q % cap / 64) (other d x) ∙ h d l (was-used d x u)
+    | yes x ↦ rw (own d x) e
+    | no x ↦ rw (other d x) (h d l (was-used d x u))
   ]
 
   -- what stands at its position, and at every other

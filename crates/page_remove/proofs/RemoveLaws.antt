@@ -14,7 +14,7 @@ use Rattle.model.specs.Pages.{words, takeCell, packed, unlessEmptied, demotes, 
 use Rattle.model.specs.Sound.{SoundPage}
 use Rattle.page_base.specs.Page.{Placed, Here}
 use Rattle.page_base.specs.Contracts.{readOf}
-use Rattle.page_base.proofs.PlaceLaws.{placed, take-placed, sound-of}
+use Rattle.page_base.proofs.PlaceLaws.{placed, take-placed, all-here, sound-of}
 use Rattle.page_base.proofs.ReadLaws.{Found, found-cell, finds-at}
 use Rattle.page_base.proofs.ExchangeLaws.{at-found, at-absent}
 use Rattle.page_remove.specs.Remove.{RemovedPage, removePage}
@@ -92,8 +92,7 @@ module _ (n cap g : ℕ) where
       sound-of n cap g (packed p) (packed-placed n p ok k n few) (λ z e. o (sym (packed-occupied p) ∙ e))
       (λ c l u.
       let m = packed-used p c u in
-      ap (λ (x : ℕ). x % cap / 64) (packed-sequence p c m)
-      ∙ h _ (nth-is (p .occupied) c m .inside) (packed-from n p ok k c m))
+      rw (packed-sequence p c m) (h _ (nth-is (p .occupied) c m .inside) (packed-from n p ok k c m)))
 
   pub unless-sound : (p : Page) → Placed n p → Here cap g p → SoundPage n cap g (unlessEmptied p)
   unless-sound p ok h = unless-cases (SoundPage n cap g) p (λ e. emptied-sound p) (λ o. sound-of n cap g p ok (λ k. o) h)
@@ -106,5 +105,5 @@ module _ (n cap g : ℕ) where
   pub remove-sound : (p : Page) (s d : ℕ) → d ≤ n → SoundPage n cap g p → SoundPage n cap g (removePage d p s .page)
   remove-sound p s d m sound =
       remove-cases p s (SoundPage n cap g) d
-      (λ t c f. after-sound (takeCell p c) d m (take-placed n p (placed n cap g p sound) c (f .inside) (f .used)) (take-here cap g p c (sound .here)))
+      (λ t c f. after-sound (takeCell p c) d m (take-placed n p (placed n cap g p sound) c (f .inside) (f .used)) (take-here cap g p c (all-here n cap g p sound)))
       (λ t. sound)

@@ -1,16 +1,16 @@
 -- What a test for refusals that passes says of the header and of the lists, and back. Assumes nothing.
 use mathlib.Core.Path.{_≡_, refl, sym, ap, _∙_}
 use mathlib.Core.Bool.{Bool, cond, true, false, _&&_, _||_, true≢false}
-use Prim.Native.Nat.{ℕ, suc, _≤_}
+use Prim.Native.Nat.{ℕ, suc, _^_, _≤_, _<_}
 use native.Mathlib.Omega.{arith}
 use lib.Dec.{ltb}
-use borrow.Author.Tests.{ltb-false, leb-true, eqb-true, le-ltb, le-leb, eq-eqb}
+use borrow.Author.Tests.{ltb-true, ltb-false, leb-true, eqb-true, le-ltb, le-leb, eq-eqb}
 use Rattle.window.specs.declared.AdaptiveReceiverPacketWindow.{AdaptiveReceiverPacketWindow}
 use Rattle.window.specs.declared.refusals.Refusal.{Refusal}
-use Rattle.window.specs.declared.refusals.Refusal.the-variants.{WindowSize, SparseCells, DemoteAt, Occupied, RangeCount, ShortMemory, Unsound, Budget, Base}
+use Rattle.window.specs.declared.refusals.Refusal.the-variants.{WindowSize, SparseCells, DemoteAt, Occupied, RangeCount, ShortMemory, Unsound, Budget, Base, Sequence}
 use Rattle.window.specs.declared.refusals.Verdict.{Verdict}
 use Rattle.window.specs.declared.refusals.Verdict.the-variants.{Refuse}
-use Rattle.window.specs.Refusals.{refusalNumber, verdictNumber, outside, limits, longEnough, fits, fitsWithList, Within, LongEnough, Fits}
+use Rattle.window.specs.Refusals.{refusalNumber, verdictNumber, outside, limits, longEnough, fits, fitsWithList, isWireNumber, Within, LongEnough, Fits}
 
 and-true : (a b : Bool) → (a && b) ≡ true → (a ≡ true) × (b ≡ true)
 and-true true b e = (refl, e)
@@ -31,6 +31,7 @@ some-number ShortMemory = omega arith
 some-number Unsound = omega arith
 some-number Budget = omega arith
 some-number Base = omega arith
+some-number Sequence = omega arith
 
 pub refuses : (t : Verdict) (why : Refusal) → t ≡ Refuse why → verdictNumber t ≡ 0 → ⊥
 refuses t why e z = let k : refusalNumber why ≡ 0 = ap verdictNumber (sym e) ∙ z in omega (arith, some-number why)
@@ -92,3 +93,11 @@ module _ (w : AdaptiveReceiverPacketWindow) (s v p b : ℕ) where
   pub fits-with-list-is : (r : ℕ) → fitsWithList w s v p b r ≡ true → (384 ≤ r) × Fits w s v p b
   unfolding fitsWithList
   fits-with-list-is r e = let f = and-true _ _ e in (leb-true 384 r (f .0), fits-is (f .1))
+
+-- ---- wire numbers: r says whether s is one
+
+pub wire-yes : (s : ℕ) (r : Bool) → r ≡ isWireNumber s → r ≡ true → s < 2 ^ 31
+wire-yes s r e t = ltb-true s (2 ^ 31) (sym e ∙ t)
+
+pub wire-no : (s : ℕ) (r : Bool) → r ≡ isWireNumber s → r ≡ false → 2 ^ 31 ≤ s
+wire-no s r e f = ltb-false s (2 ^ 31) (sym e ∙ f)

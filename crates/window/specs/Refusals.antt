@@ -2,11 +2,11 @@
 -- apply.
 -- Definitions only; their laws are in RefusalLaws. Assumes nothing.
 use mathlib.Core.Bool.{Bool, cond, _&&_, _||_}
-use Prim.Native.Nat.{ℕ, _*_, _≤_}
+use Prim.Native.Nat.{ℕ, _*_, _^_, _≤_}
 use lib.Dec.{eqb, ltb, leb}
 use Rattle.window.specs.declared.AdaptiveReceiverPacketWindow.{AdaptiveReceiverPacketWindow}
 use Rattle.window.specs.declared.refusals.Refusal.{Refusal}
-use Rattle.window.specs.declared.refusals.Refusal.the-variants.{WindowSize, SparseCells, DemoteAt, Occupied, RangeCount, ShortMemory, Unsound, Budget, Base}
+use Rattle.window.specs.declared.refusals.Refusal.the-variants.{WindowSize, SparseCells, DemoteAt, Occupied, RangeCount, ShortMemory, Unsound, Budget, Base, Sequence}
 use Rattle.window.specs.declared.refusals.Verdict.{Verdict}
 use Rattle.window.specs.declared.refusals.Verdict.the-variants.{Pass, Refuse}
 use Rattle.window.specs.Memory.{capacity, pageCount, blockCount, pageWords, blockWords}
@@ -23,6 +23,8 @@ refusalNumber Unsound = 7
 refusalNumber Budget = 8
 -- document 02, S-1: "9, a base of 2147483648 or more"
 refusalNumber Base = 9
+-- S-3: "10, a sequence, first or last of 2147483648 or more"
+refusalNumber Sequence = 10
 
 -- of a verdict: 0 if it passes
 abbrev pub verdictNumber : Verdict → ℕ
@@ -54,6 +56,10 @@ fits w sequences values pages blocks =
 -- the same for a call that takes "a return list of at least 384"
 unfoldable pub fitsWithList : AdaptiveReceiverPacketWindow → ℕ → ℕ → ℕ → ℕ → ℕ → Bool
 fitsWithList w sequences values pages blocks returned = leb 384 returned && fits w sequences values pages blocks
+
+-- document 02, S-3: "Wire numbers have 31 bits": below 2147483648
+abbrev pub isWireNumber : ℕ → Bool
+isWireNumber number = ltb number (2 ^ 31)
 
 -- ---- the same as facts
 

@@ -1,4 +1,5 @@
-// Why a call refuses, and the tests that calls share: the limits of refusals 1 to 3, the lengths of the lent lists, and refusal 6.
+// Why a call refuses, and the tests that calls share: the limits of refusals 1 to 3, the lengths of the lent lists, refusal 6, and the
+// limit of refusals 9 and 10.
 use crate::AdaptiveReceiverPacketWindow;
 use crate::memory::BLOCK_WORDS;
 use crate::memory::PAGE_WORDS;
@@ -7,9 +8,9 @@ use crate::memory::capacity;
 use crate::memory::page_count;
 ghost use mathlib.Core.Path.{_≡_};
 ghost use Prim.Native.Nat.{_≤_};
-ghost use Rattle.window.specs.Refusals.{refusalNumber, verdictNumber, limits as limitsOf, longEnough, fits as fitsOf, fitsWithList};
+ghost use Rattle.window.specs.Refusals.{refusalNumber, verdictNumber, limits as limitsOf, longEnough, fits as fitsOf, fitsWithList, isWireNumber};
 
-// The refusals of documents 01 and 02, in the order of their numbers 1 to 9 (`refusalNumber`).
+// The refusals of documents 01 and 02, in the order of their numbers 1 to 10 (`refusalNumber`).
 pub enum Refusal {
     WindowSize,
     SparseCells,
@@ -20,6 +21,7 @@ pub enum Refusal {
     Unsound,
     Budget,
     Base,
+    Sequence,
 }
 
 // The number of a refusal.
@@ -36,6 +38,7 @@ pub fn refusal_number(why: Refusal) -> u32
         Refusal::Unsound => 7,
         Refusal::Budget => 8,
         Refusal::Base => 9,
+        Refusal::Sequence => 10,
     }
 }
 
@@ -118,4 +121,11 @@ pub fn fits_with_list(
         return false;
     }
     fits(w, sequences, values, pages, blocks)
+}
+
+// Whether a number has 31 bits, as a sequence on the wire: below 2147483648.
+pub fn is_wire_number(number: u32) -> bool
+    ensures { λ r. ⌜ r ≡ isWireNumber number ⌝ }
+{
+    number < 0x8000_0000
 }

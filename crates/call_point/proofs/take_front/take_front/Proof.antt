@@ -82,7 +82,7 @@ returns-2 c =
     let a : tie.After-admits = k .before in
     let s = start a in
     admitted-meets (call s) (found s) 384 refl (a .admits .result) (a .admits .ensures) (k .match .keys2) [] _ refl
-    (front-acts (s .args .w) (found s .memory) (x .remove-value .result) _ (c .move-base .result) (x .remove-value .ensures) refl (c .move-base .ensures))
+    (front-acts (s .args .w) (found s .memory) (x .remove-value .result) _ (c .move-base .result) (x .remove-value .ensures) (c .move-base .ensures))
 
 pub take-front-spec : {M : Type 1} → statement M
 take-front-spec =

@@ -1,18 +1,19 @@
--- A set top bit makes the second test of isStranger true; without one the first decides. Assumes nothing.
-use native.Mathlib.Omega.{arith}
-use Rattle.call_read.proofs.StrangerLaws.{stranger-high, stranger-far}
+-- The distance is compared with the count. Assumes nothing.
+use mathlib.Core.Path.{ap}
+use Prim.Native.Nat.{ℕ}
+use lib.Dec.{leb}
 use borrow.Author.Needs.{needs}
 use Rattle.call_read.proofs.stranger.is_stranger.Statement.{statement}
 use Rattle.call_read.proofs.stranger.is_stranger.Tie as tie
+use Rattle.call_read.proofs.stranger.is_stranger.Reads as reads
+use Rattle.call_read.proofs.stranger.is_stranger.Lts as lts
+use Rattle.call_base.proofs.distance.Reads as distance-reads
+
+distance-requires : tie.Need-distance-requires
+distance-requires c κs = search needs
 
 returns : tie.Need-returns
-returns c = let s = c .before .args in stranger-high (s .first) (s .count) (s .sequence) (omega (arith, c .if1 .taken))
-
-range-count-requires : tie.Need-range-count-requires
-range-count-requires c κs = search needs
-
-returns-2 : tie.Need-returns-2
-returns-2 c = let s = c .before .before .args in stranger-far (s .first) (s .count) (s .sequence) _ (c .range-count .ensures) (omega (arith, c .before .if1 .left))
+returns c = ap (λ (d : ℕ). leb (c .before .args .count) d) (c .distance .ensures)
 
 pub is-stranger-spec : {M : Type 1} → statement M
-is-stranger-spec = tie.close (tie.spec returns range-count-requires returns-2)
+is-stranger-spec = tie.close (tie.spec distance-requires returns)
