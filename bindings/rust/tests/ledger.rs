@@ -230,7 +230,7 @@ impl Run<'_> {
         assert_eq!((self.window.get(wide), self.window.remove(wide)), (refused, refused), "get, remove {wide}");
         assert_eq!((self.window.first_from(wide), self.window.successor_after(wide)), (refused, refused), "searches from {wide}");
         for (first, last) in [(wide, sequence), (sequence, wide), (wide, wide)] {
-            assert_eq!(self.window.remove_range(first, last).answer, refused, "remove_range {first} {last}");
+            assert_eq!(self.window.remove_range(first, last).answer, Err(Refusal::Sequence), "remove_range {first} {last}");
             assert_eq!(self.window.stranger(first, last), Err(Refusal::Sequence), "stranger {first} {last}");
         }
         assert_eq!(self.window.set_base(wide), Err(Refusal::Base), "set_base {wide}");
