@@ -7,8 +7,8 @@ use mathlib.Core.Logic.{_⊎_, ⊎-elim}
 use Prim.Native.Nat.{ℕ, _+_, _-_, _≤_, _<_}
 use native.Mathlib.Omega.{arith}
 use native.Mathlib.Decide.{ℕ-discrete, decLt}
-use lib.Dec.{leb, ltb}
-use borrow.Author.Tests.{le-leb, lt-leb, lt-ltb, le-ltb, ltb-true, ltb-false}
+use lib.Dec.{ltb}
+use borrow.Author.Tests.{lt-ltb, le-ltb, ltb-true, ltb-false}
 use denote.Enum.Declared.{tagOf}
 use types.Run.{OneOf}
 use Rattle.words.proofs.CaseLaws.{bool}
@@ -17,7 +17,7 @@ use Rattle.words.proofs.FirstLaws.{first-is, first-eq}
 use Rattle.window.specs.declared.AdaptiveReceiverPacketWindow.{AdaptiveReceiverPacketWindow}
 use Rattle.window.specs.Memory.{memory, capacity, position}
 use Rattle.model.specs.Calls.{Answer, done, new, replaced, absent, found, pair, ended, released, refused}
-use Rattle.model.specs.Table.{Pair, pairOf, rangeCount, holds, sequenceOf, isStranger}
+use Rattle.model.specs.Table.{Pair, pairOf, holds, sequenceOf, isStranger}
 use Rattle.model.specs.Window.{Window, decode, liveAt}
 use Rattle.model.specs.Sound.{Sound}
 use Rattle.page_base.proofs.LiveLaws.{InPlace, live-in-place}

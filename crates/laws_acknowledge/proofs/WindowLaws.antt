@@ -1,29 +1,29 @@
 -- The window's point after each call, from the point before it: the increments, of windows. Assumes nothing.
-use mathlib.Core.Path.{_≡_, refl, sym, ap, subst, _∙_}
-use mathlib.Core.Bool.{Bool, true, false, not}
+use mathlib.Core.Path.{_≡_, refl, sym, ap, _∙_}
+use mathlib.Core.Bool.{Bool, true, not}
 use mathlib.Core.Option.{Option, none, some, Option·some-injective}
-use Prim.Native.Nat.{ℕ, _+_, _*_, _/_, _%_, _^_, _≤_, _<_}
+use Prim.Native.Nat.{ℕ, _/_, _^_, _≤_, _<_}
 use native.Mathlib.Omega.{arith}
 use Rattle.words.proofs.CaseLaws.{bool}
 use Rattle.window.specs.Memory.{capacity, position}
-use Rattle.window.proofs.MemoryLaws.{capacity-pages, position-lt, size-le}
-use Rattle.model.specs.Calls.{Call, insert, exchange, remove, remove-range, clear, clear-bounded, release-retired, Answer}
-use Rattle.model.specs.Table.{Pair, Table, fresh, holds, putAnswer, finds, sequenceAt, rangeCount, emptyRange, argumentRefusal}
-use Rattle.model.specs.Point.{isLive, pointOf}
-use Rattle.model.specs.Window.{Page, Window, sizeOf, capacityOf, pagesOf, standsAt, isRetired, liveAt, retiredAt, pointFor}
+use Rattle.window.proofs.MemoryLaws.{capacity-pages, position-lt}
+use Rattle.model.specs.Calls.{Call, insert, exchange, remove, remove-range, clear, clear-bounded, release-retired}
+use Rattle.model.specs.Table.{Pair, Table, holds, putAnswer, finds, sequenceAt, rangeCount, emptyRange, argumentRefusal}
+use Rattle.model.specs.Point.{pointOf}
+use Rattle.model.specs.Window.{Window, sizeOf, capacityOf, liveAt, retiredAt, pointFor}
 use Rattle.model.specs.Positions.{Positions, sweepRange, does}
-use Rattle.model.specs.Steps.{setBase, withHeader, isNew, liveHere, removeStep, frontStep, knownBy, windowDoes}
+use Rattle.model.specs.Steps.{setBase, withHeader, isNew, liveHere, knownBy, windowDoes}
 use Rattle.model.specs.Sound.{SoundWithPoint}
 use Rattle.model.proofs.KeepLaws.{count-some}
 use Rattle.model.proofs.RefusalLaws.{range-taken}
 use Rattle.model.proofs.SweepLaws.{range-live}
-use Rattle.laws_soundness.specs.Change.{Proper, Limits, Sizes, SameSizes, SameLimits}
+use Rattle.laws_soundness.specs.Change.{Proper, Limits, Sizes, SameLimits}
 use Rattle.laws_soundness.proofs.RetireReleaseLaws.{count-few}
-use Rattle.laws_soundness.proofs.CallLaws.{leavesBase, does-leaves, does-keeps, same-sizes}
+use Rattle.laws_soundness.proofs.CallLaws.{leavesBase, does-leaves, does-keeps}
 use Rattle.laws_refinement.specs.Seen.{positionsOf}
 use Rattle.laws_refinement.proofs.CallLaws.{does-follows}
 use Rattle.laws_refinement.proofs.MarkLaws.{empty-live, proper-order}
-use Rattle.laws_acknowledge.specs.Increments.{inserted, removed, afterInsert, afterRemove, afterRange, afterSetBase}
+use Rattle.laws_acknowledge.specs.Increments.{inserted, afterInsert, afterRemove, afterRange, afterSetBase}
 use Rattle.laws_acknowledge.proofs.AdvanceLaws.{point-fresh, point-alike}
 use Rattle.laws_acknowledge.proofs.IncrementLaws.{point-insert, point-exchange, point-remove}
 use Rattle.laws_acknowledge.proofs.RangeLaws.{point-range}

@@ -1,5 +1,5 @@
 -- The order of the refusals for arguments is one: where `argumentRefusal` names a refusal, the plain table, the positions and the
--- window give just that one, with no step; and what is known of arguments that it does not refuse. Assumes nothing.
+-- window give just that one, with no step; 6 comes first, then 10; and what is known of arguments that are not refused. Assumes nothing.
 use mathlib.Core.Path.{_≡_, refl}
 use mathlib.Core.Bool.{Bool, true, false}
 use mathlib.Core.Option.{some}
@@ -29,6 +29,15 @@ module _ (t : TableState) (p : Positions) (w : Window) where
   pub one-order : (c : Call) → (argumentRefusal (knownBy (w .header)) c ≡ 0 → ⊥)
       → Refuse (argumentRefusal (knownBy (w .header)) c) t p w (tableStep (sizeOf w) t c) (step (sizeOf w) p c) (windowStep w c)
   one-order c h = refusing (argumentRefusal (knownBy (w .header)) c) (tableDoes (sizeOf w) t c) (does (sizeOf w) p c) (windowActs w c) h
+
+-- ---- the order: 6 whatever the arguments are, then 10 whatever their limits say
+
+module _ (k : Known) (c : Call) where
+  pub short-refused : hasPlaces (roleOf c .listed) ≡ false → argumentRefusal k c ≡ 6
+  short-refused short = rw short
+
+  pub wide-refused : hasPlaces (roleOf c .listed) ≡ true → areWireNumbers (roleOf c .arguments) ≡ false → argumentRefusal k c ≡ 10
+  wide-refused long wide = rw (long, wide)
 
 -- ---- arguments that are not refused
 

@@ -1,9 +1,9 @@
 -- What is live at a position of a window read from the lent lists, by its page; on a sound window a pair stands at its sequence's
--- position. Assumes nothing.
+-- position, and its sequence has 31 bits. Assumes nothing.
 use mathlib.Core.Path.{_≡_, ap, subst}
 use mathlib.Core.Bool.{true, false}
 use mathlib.Core.Option.{Option, none, some}
-use Prim.Native.Nat.{ℕ, _/_, _%_, _<_}
+use Prim.Native.Nat.{ℕ, _/_, _%_, _^_, _<_}
 use native.Mathlib.Omega.{arith}
 use lib.Dec.{ltb}
 use borrow.Author.Tests.{ltb-true}
@@ -12,8 +12,8 @@ use Rattle.window.specs.declared.AdaptiveReceiverPacketWindow.{AdaptiveReceiver
 use Rattle.window.specs.Memory.{Memory, capacity, pageCount, position}
 use Rattle.window.proofs.MemoryLaws.{capacity-pages, position-slot}
 use Rattle.model.specs.Table.{Pair}
-use Rattle.model.specs.Window.{Page, Window, sizeOf, capacityOf, cellOf, decode, isRetired, liveAt, standsAt}
-use Rattle.model.specs.Sound.{Sound}
+use Rattle.model.specs.Window.{Page, Window, sizeOf, capacityOf, pagesOf, cellOf, decode, isRetired, liveAt, standsAt}
+use Rattle.model.specs.Sound.{Used, Sound}
 use Rattle.page_base.specs.Page.{wordsAt, partOf, page, Placed}
 use Rattle.page_base.proofs.PlaceLaws.{placed, cell-used}
 use Rattle.page_base.proofs.DecodeLaws.{page-at}
@@ -33,22 +33,36 @@ module _ (h : AdaptiveReceiverPacketWindow) (m : Memory) (q : ℕ) where
       → liveAt (decode h m) q ≡ standsAt (page (wordsAt (m .pages) (q / 64)) (partOf (q / 64) (m .sequences)) (partOf (q / 64) (m .values))) (q % 64)
   live-is l r = rw r (ap (λ (p : Page). standsAt p (q % 64)) (page-at h m (q / 64) l))
 
--- what stands at position q is a pair whose sequence has that place, if it is a pair
-abbrev pub InPlace : (ℕ → ℕ) → ℕ → Option Pair → Type 0
-InPlace place q none = Unit {0}
-InPlace place q (some e) = place (e .sequence) ≡ q
+-- Q is true of the sequence, if there is a pair
+abbrev pub Holds : (ℕ → Type 0) → Option Pair → Type 0
+Holds Q none = Unit {0}
+Holds Q (some e) = Q (e .sequence)
 
-pub live-in-place : (w : Window) → Sound w → (q : ℕ) → q < capacityOf w → InPlace (position (sizeOf w)) q (liveAt w q)
-live-in-place w ok q l =
+-- what is true of the sequences in the page's cells in use at a position is true of the live pair there
+live-holds : (w : Window) (q : ℕ) (Q : ℕ → Type 0)
+    → let p = w .pages (q / 64) in ((c : ℕ) → c < 64 → Used p c → p .sequences c % 64 ≡ q % 64 → Q (p .sequences c)) → Holds Q (liveAt w q)
+live-holds w q Q h =
     let p = w .pages (q / 64) in
     let c = cellOf p (q % 64) in
     bool (isRetired w (q / 64))
     (λ r. rw r tt)
     (λ r. rw r
     (bool (ltb c 64)
-    (λ y.
-    let m = ltb-true c 64 y in
-    let u = cell-used p (q % 64) m in
-    let h = ok .page (q / 64) (omega (arith, l, capacity-pages (sizeOf w))) .here c m (u .0) in
-    rw y (omega (arith, h, u .1, position-slot (sizeOf w) (p .sequences c))))
+    (λ y. let m = ltb-true c 64 y in let u = cell-used p (q % 64) m in rw y (h c m (u .0) (u .1)))
     (λ y. rw y tt)))
+
+-- what stands at position q is a pair whose sequence has that place, if it is a pair
+abbrev pub InPlace : (ℕ → ℕ) → ℕ → Option Pair → Type 0
+InPlace place q = Holds (λ (s : ℕ). place s ≡ q)
+
+module _ (w : Window) (ok : Sound w) (q : ℕ) (l : q < capacityOf w) where
+  below : q / 64 < pagesOf w
+  below = omega (arith, l, capacity-pages (sizeOf w))
+
+  pub live-in-place : InPlace (position (sizeOf w)) q (liveAt w q)
+  live-in-place = live-holds w q (λ (s : ℕ). position (sizeOf w) s ≡ q)
+      (λ c m u e. omega (arith, e, ok .page (q / 64) below .here c m u, position-slot (sizeOf w) (w .pages (q / 64) .sequences c)))
+
+  -- document 02, S-3: no live sequence has its top bit set
+  pub live-wire : Holds (λ (s : ℕ). s < 2 ^ 31) (liveAt w q)
+  live-wire = live-holds w q (λ (s : ℕ). s < 2 ^ 31) (λ c m u e. ok .page (q / 64) below .wire c m u)

@@ -1,5 +1,5 @@
 -- The call is refused as `admits` says, or else does what a remove of the base promises, and then moves the base. Assumes nothing.
-use mathlib.Core.Path.{_≡_, refl}
+use mathlib.Core.Path.{refl}
 use mathlib.Core.List.{[]}
 use denote.Ref.{now}
 use lib.ListN.{length}
