@@ -32,6 +32,7 @@ SHOWN = {
     "retired values held": (rb"^[a-z]\t[^\t\n]+\t\d+\t[1-9]", 10000),
     "fronts taken": (rb"^t\t\d", 10000),
     "pages revived": (rb"^i\t[^\t\n]+(?:\t\d+){5}", 1000),
+    **{f"refused 10 by {letter}": (rb"^%c\t!10\t" % ord(letter), 100) for letter in "igerfsdq"},
 }
 ANSWERED = 1000  # lines of each letter with an answer that is not `?`
 WRAPPED = 1000  # ranges taken whose last sequence is below their first

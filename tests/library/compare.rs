@@ -1,7 +1,8 @@
 //! The static library against the source, in one process.
 //!
 //! `compare FIRST LAST CALLS [--large|--small]`: one list of calls for each seed, with more of stranger's among them. Each call is
-//! made on the source and on the library: the answer, the returned values in order, the header with its base and point, all block
+//! made on the source and on the library, but for those with a sequence, first or last of 2147483648 or more: these the source would
+//! take, and the library must refuse 10 and alter nothing. The answer, the returned values in order, the header with its base and point, all block
 //! words, and words and cells in use of the pages that the call may have changed are compared after it, those of all pages after each
 //! call on windows up to 512 and now and then on larger ones. Half of the calls that have a host form are made by it.
 
@@ -33,6 +34,7 @@ use library::{has_host_form, Library};
 use line::Call;
 use program::program;
 use reference::{call_and_drops, fresh, Answer, Window};
+use std::collections::BTreeMap;
 use std::ops::RangeInclusive;
 use std::process::ExitCode;
 
@@ -45,6 +47,8 @@ struct Counts {
     /// Fronts taken, and calls after which the point is past the base.
     fronts: u64,
     reached: u64,
+    /// Calls refused 10, by their letter.
+    wide: BTreeMap<char, u64>,
 }
 
 struct Both {
@@ -84,6 +88,9 @@ impl Both {
         counts.hosted += u64::from(host);
         counts.strangers += u64::from(matches!(answer, Answer::Pair { .. }));
         counts.fronts += u64::from(call == Call::TakeFront && answer != Answer::Absent);
+        if answer == Answer::Refused(10) {
+            *counts.wide.entry(call.letter()).or_default() += 1;
+        }
         let header = self.library.parts().0;
         counts.reached += u64::from(header.point != header.base);
         let all = self.source.page_count() <= 8 || random.percent(1);
@@ -143,13 +150,17 @@ fn run(seeds: RangeInclusive<u64>, calls: u32, options: Options) -> Result<Strin
     for seed in seeds {
         list(seed, calls, options, &mut counts)?;
     }
-    let Counts { compared, hosted, refused, strangers, fronts, reached } = counts;
+    let Counts { compared, hosted, refused, strangers, fronts, reached, wide } = counts;
     if hosted == 0 || refused == 0 || strangers == 0 || fronts == 0 || reached == 0 {
         return Err("no host form compared, no short list refused, no stranger found, no front taken or no point past its base".to_string());
     }
+    if wide.keys().collect::<String>() != "defgiqrs" {
+        return Err(format!("refused 10 by the letters {wide:?} alone"));
+    }
+    let wide: u64 = wide.values().sum();
     Ok(format!(
-        "{compared} calls as the source, {hosted} by host forms, {refused} with a short list refused 6, {strangers} strangers found, \
-         {fronts} fronts taken, {reached} points past their base"
+        "{compared} calls as the source, {hosted} by host forms, {refused} with a short list refused 6, {wide} with a number \
+         of more than 31 bits refused 10, {strangers} strangers found, {fronts} fronts taken, {reached} points past their base"
     ))
 }
 

@@ -1,6 +1,6 @@
--- The count of a range that is not refused. Assumes nothing.
+-- The count of a range, and a number, that are not refused. Assumes nothing.
 use mathlib.Core.Path.{_≡_}
-use Prim.Native.Nat.{ℕ, _≤_, _<_}
+use Prim.Native.Nat.{ℕ, _≤_}
 use native.Mathlib.Omega.{arith}
 use borrow.Author.Tests.{leb-true}
 use Rattle.model.specs.Roles.{range-argument, number-argument}
@@ -10,10 +10,6 @@ use Rattle.model.proofs.RefusalLaws.{tested, wire-taken}
 
 pub count-taken : (k : Known) (first last : ℕ) → refusedFor k (range-argument first last) ≡ 0 → rangeCount first last ≤ k .size
 count-taken k a b z = leb-true _ _ (refusals.count-taken k a b z)
-
-pub count-some : (first last : ℕ) → 0 < rangeCount first last
-unfolding rangeCount
-count-some a b = omega arith
 
 pub number-taken : (k : Known) (n : ℕ) → refusedFor k (number-argument n) ≡ 0 → n ≤ 256
 number-taken k n z = leb-true n 256 (tested 8 _ _ (λ e. omega arith) (wire-taken k (number-argument n) z .1) .0)

@@ -4,7 +4,7 @@ use denote.Ref.{now}
 use borrow.Author.Needs.{needs}
 use Rattle.window.specs.Memory.{memory}
 use Rattle.window.proofs.MemoryLaws.{size-le}
-use Rattle.call_base.proofs.RangeLaws.{count-some}
+use Rattle.model.proofs.KeepLaws.{count-some}
 use Rattle.call_read.proofs.StrangerAnswerLaws.{stranger-is}
 use Rattle.call_read.proofs.stranger.first_stranger.Statement.{statement}
 use Rattle.call_read.proofs.stranger.first_stranger.Tie as tie

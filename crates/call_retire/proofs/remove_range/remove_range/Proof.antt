@@ -17,7 +17,8 @@ use Rattle.model.specs.Contract.{State}
 use Rattle.call_base.specs.Answers.{stateOf, leftOf}
 use Rattle.call_base.specs.Contracts.{Fills}
 use Rattle.call_base.proofs.MeetsLaws.{refusal-meets, admitted-fits, admitted-places, admitted-arguments, filled-meets}
-use Rattle.call_base.proofs.RangeLaws.{count-taken, count-some}
+use Rattle.model.proofs.KeepLaws.{count-some}
+use Rattle.call_base.proofs.RangeLaws.{count-taken}
 use Rattle.call_retire.proofs.DoesLaws.{range-does}
 use Rattle.call_retire.proofs.AcknowledgeLaws.{range-acts}
 use Rattle.call_retire.proofs.remove_range.remove_range.Statement.{statement}
