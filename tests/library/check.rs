@@ -47,6 +47,8 @@ struct Counts {
     unsound: u64,
     random: u64,
     alone: BTreeMap<Clause, u64>,
+    /// Of these, states in which a retired page alone has a sequence of more than 31 bits.
+    wide_and_retired: u64,
 }
 
 fn copied(library: &Library) -> State {
@@ -92,6 +94,7 @@ fn compare(state: &mut State, counts: &mut Counts) -> Result<bool, String> {
             counts.unsound += 1;
             if broken.len() == 1 {
                 *counts.alone.entry(clause).or_default() += 1;
+                counts.wide_and_retired += u64::from(clause == Clause::SequencesHave31Bits && state.wide_in_a_retired_page());
             }
         }
     }
@@ -154,12 +157,19 @@ fn run(seeds: RangeInclusive<u64>, calls: u32) -> Result<String, String> {
     for seed in seeds {
         list(seed, calls, &mut counts)?;
     }
-    let Counts { sound, unsound, random, alone } = counts;
+    let Counts { sound, unsound, random, alone, wide_and_retired } = counts;
     if let Some(clause) = CLAUSES.iter().find(|clause| !alone.contains_key(clause)) {
         return Err(format!("no copy with {clause:?} alone broken: {alone:?}"));
     }
+    let wide_and_live = alone[&Clause::SequencesHave31Bits] - wide_and_retired;
+    if wide_and_retired == 0 || wide_and_live == 0 {
+        return Err(format!("a sequence of more than 31 bits in {wide_and_live} live and {wide_and_retired} retired pages"));
+    }
     let least = alone.values().min().copied().unwrap_or(0);
-    Ok(format!("{sound} states sound, {unsound} refused 7, each clause alone broken in {least} or more, {random} of any content"))
+    Ok(format!(
+        "{sound} states sound, {unsound} refused 7, each clause alone broken in {least} or more, by a sequence of more than 31 bits in \
+         {wide_and_live} live and {wide_and_retired} retired pages, {random} of any content"
+    ))
 }
 
 fn main() -> ExitCode {

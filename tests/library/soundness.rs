@@ -159,6 +159,12 @@ impl State {
         fails(Clause::MarksOnNonemptyPages, !bit(self.marks(page / 64), page % 64) || occupied != 0);
     }
 
+    /// Whether a cell in use of a retired page has a sequence of more than 31 bits.
+    pub fn wide_in_a_retired_page(&self) -> bool {
+        let wide = |page: usize| bits(self.filled(page)).any(|cell| self.sequences[64 * page + cell] >= HALF);
+        (0..self.page_count()).any(|page| self.retired(page) && wide(page))
+    }
+
     /// The clauses that do not hold; none of a sound state.
     pub fn broken(&self) -> BTreeSet<Clause> {
         let mut broken = BTreeSet::new();
