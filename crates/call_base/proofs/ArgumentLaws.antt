@@ -51,8 +51,8 @@ module _ (a : Arguments) (x y : ℕ) (r : Bool) (e : a ≡ Range x y) (i : r ≡
 
 -- the tests in their order: b says whether the sequences are wire numbers
 module _ (k : Known) (a : Arguments) (b : Bool) (i : b ≡ areWireNumbers (argumentsOf a)) where
-  pub wide-refused : b ≡ false → 10 ≡ refusedFor k (argumentsOf a)
-  wide-refused f = sym (ap (λ (t : Bool). first 10 t (asked k a)) (sym i ∙ f))
+  pub sequence-refused : b ≡ false → 10 ≡ refusedFor k (argumentsOf a)
+  sequence-refused f = sym (ap (λ (t : Bool). first 10 t (asked k a)) (sym i ∙ f))
 
   pub wire-next : (n : ℕ) → b ≡ true → n ≡ limitRefusal k (argumentsOf a) → n ≡ refusedFor k (argumentsOf a)
   wire-next n t e = e ∙ sym (ap (λ (x : Bool). first 10 x (asked k a)) (sym i ∙ t))

@@ -201,10 +201,10 @@ points = (refl, refl, refl, refl)
 wire-numbers : lines (afterNew 64 8 2)
     (insert 5 50 true ∷ insert 2147483653 51 true ∷ ask (get 2147483653) ∷ exchange 2147483653 52 ∷ remove 2147483653 ∷ ask (successor-after 2147483653)
     ∷ ask (first-from 2147483653) ∷ remove-range 2147483653 5 true ∷ remove-range 5 2147483653 true ∷ ask (stranger 2147483653 5) ∷ ask (stranger 5 2147483653) ∷ set-base 2147483653
-    ∷ ask (iter 2147483653) ∷ insert 2147483647 53 true ∷ ask (get 2147483647) ∷ remove 2147483647 ∷ ask (get 5) ∷ ask check ∷ [])
+    ∷ ask (iter 2147483653) ∷ insert 2147483647 53 true ∷ ask (get 2147483647) ∷ remove 2147483647 ∷ ask (get 5) ∷ [])
     ≡ line new 1 0 0 0 [] ∷ line (refused 10) 1 0 0 0 [] ∷ line (refused 10) 1 0 0 0 [] ∷ line (refused 10) 1 0 0 0 [] ∷ line (refused 10) 1 0 0 0 [] ∷ line (refused 10) 1 0 0 0 []
     ∷ line (refused 10) 1 0 0 0 [] ∷ line (refused 10) 1 0 0 0 [] ∷ line (refused 10) 1 0 0 0 [] ∷ line (refused 10) 1 0 0 0 [] ∷ line (refused 10) 1 0 0 0 [] ∷ line (refused 9) 1 0 0 0 []
-    ∷ line (ended 0) 1 0 0 0 [] ∷ line new 2 0 0 0 [] ∷ line (found 53) 2 0 0 0 [] ∷ line (found 53) 1 0 0 0 [] ∷ line (found 50) 1 0 0 0 [] ∷ line done 1 0 0 0 [] ∷ []
+    ∷ line (ended 0) 1 0 0 0 [] ∷ line new 2 0 0 0 [] ∷ line (found 53) 2 0 0 0 [] ∷ line (found 53) 1 0 0 0 [] ∷ line (found 50) 1 0 0 0 [] ∷ []
 unfolding firstFrom firstRound bitAt withBit countBelow span wordBelow lowest capacity freshHeader freshWindow rangeCount distance sum heldInRange searchFrom cellOf freeCell promoted nthSet packed insertPage drainPage noteNonempty splitBlock releasePage nextRetired releaseUnits revive removeSlots insertStep exchangeStep removeStep windowDoes iterStep
 wire-numbers = refl
 

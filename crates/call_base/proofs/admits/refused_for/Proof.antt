@@ -1,7 +1,7 @@
 -- Sequences are tested first, then limits (ArgumentLaws). Assumes nothing.
 use borrow.Author.Tests.{not-true, not-false}
 use Rattle.model.specs.Steps.{knownBy}
-use Rattle.call_base.proofs.ArgumentLaws.{wide-refused, wire-next}
+use Rattle.call_base.proofs.ArgumentLaws.{sequence-refused, wire-next}
 use borrow.Author.Needs.{needs}
 use Rattle.call_base.proofs.admits.refused_for.Statement.{statement}
 use Rattle.call_base.proofs.admits.refused_for.Tie as tie
@@ -16,7 +16,7 @@ are-wire-numbers-requires c κs = search needs
 returns : tie.Need-returns
 returns c =
     let s = c .before .before .args in
-    wide-refused (knownBy (s .w)) (s .arguments) _ (c .before .are-wire-numbers .ensures) (not-true _ (c .if1 .taken))
+    sequence-refused (knownBy (s .w)) (s .arguments) _ (c .before .are-wire-numbers .ensures) (not-true _ (c .if1 .taken))
 
 limit-refusal-requires : tie.Need-limit-refusal-requires
 limit-refusal-requires c κs = search needs
