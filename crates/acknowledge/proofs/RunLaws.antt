@@ -57,6 +57,10 @@ module _ (ss : List ℕ) (filled row : ℕ) where
   pub mask-none : Masks ss filled row 0 0
   mask-none = record { held = λ j l b. absurd (omega (arith, b, bit-none j)); all = λ c l i. absurd (omega arith) }
 
+  -- no cell is in use
+  pub mask-unused : (n : ℕ) → filled ≡ 0 → Masks ss filled row n 0
+  mask-unused n z = record { held = λ j l b. absurd (omega (arith, b, bit-none j)); all = λ c l i. absurd (omega (arith, i .0, ap (λ (x : ℕ). bitAt x c) z, bit-none c)) }
+
   pub mask-skip : (n mask : ℕ) → Masks ss filled row n mask → (InRow ss filled row n → ⊥) → Masks ss filled row (n + 1) mask
   mask-skip n mask m out = record {
     held = λ j l b. let f = m .held j l b in (f .0, omega (arith, f .1), f .2, f .3);
@@ -88,14 +92,14 @@ module _ (n : ℕ) (w : PageWords) (ss vs : List ℕ) (ok : Placed n (page w ss 
   here = page w ss vs
 
   -- the sequence asked for is in cell c
-  stands : (c j : ℕ) → c < 64 → InRow ss (w .filled) row c → getD ss c 0 % 64 ≡ j → finds (64 * row + j) (standsAt here j) ≡ true
+  pub stands : (c j : ℕ) → c < 64 → InRow ss (w .filled) row c → getD ss c 0 % 64 ≡ j → finds (64 * row + j) (standsAt here j) ≡ true
   stands c j l i e =
       let own = cell-in ss c l in
       ap (finds (64 * row + j)) (stands-cell n here ok c j l (i .0) (ap (λ (x : ℕ). x % 64) own ∙ e))
       ∙ eq-eqb (here .sequences c) (64 * row + j) (own ∙ omega (arith, i .1, e))
 
   -- it is in none
-  stands-not : (j : ℕ) → j < 64 → ((c : ℕ) → c < 64 → InRow ss (w .filled) row c → getD ss c 0 % 64 ≡ j → ⊥) → finds (64 * row + j) (standsAt here j) ≡ false
+  pub stands-not : (j : ℕ) → j < 64 → ((c : ℕ) → c < 64 → InRow ss (w .filled) row c → getD ss c 0 % 64 ≡ j → ⊥) → finds (64 * row + j) (standsAt here j) ≡ false
   stands-not j l out = bool (finds (64 * row + j) (standsAt here j))
       (λ t.
       let e : j ≡ (64 * row + j) % 64 = omega arith in

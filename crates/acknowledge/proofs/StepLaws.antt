@@ -26,7 +26,7 @@ use Rattle.acknowledge.specs.Contracts.{Runs, LiveRun, Advances}
 -- ---- positions
 
 -- the sequences of one row of 64: consecutive positions of one page
-row-position : (size s j : ℕ) → j < 64 → position size (64 * (s / 64) + j) ≡ 64 * (position size s / 64) + j
+pub row-position : (size s j : ℕ) → j < 64 → position size (64 * (s / 64) + j) ≡ 64 * (position size s / 64) + j
 row-position size s j l =
     let cap = capacity size in
     let p = position size s in
@@ -35,7 +35,7 @@ row-position size s j l =
     ∙ mod-eq-of-lt (omega (arith, capacity-pages size, position-lt size s))
 
 -- the sequence k further on, in the row of the one at distance d
-row-sequence : (base d k : ℕ) → sequenceAt base d % 64 + k < 64
+pub row-sequence : (base d k : ℕ) → sequenceAt base d % 64 + k < 64
     → sequenceAt base (d + k) ≡ 64 * (sequenceAt base d / 64) + (sequenceAt base d % 64 + k)
 row-sequence base d k l = omega arith
 

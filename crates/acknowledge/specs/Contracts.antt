@@ -39,6 +39,14 @@ pub record Masks (ss : List ℕ) (filled row n mask : ℕ) : Type 0 where
   pub held : (j : ℕ) → j < 64 → bitAt mask j ≡ 1 → (c : ℕ) × (c < n) × InRow ss filled row c × (getD ss c 0 % 64 ≡ j)
   pub all : (c : ℕ) → c < n → InRow ss filled row c → bitAt mask (getD ss c 0 % 64) ≡ 1
 
+-- the cells that a page with these words may use
+abbrev pub cellsFor : ℕ → PageWords → ℕ
+cellsFor n w = cond (eqb (w .kind) 2) 64 n
+
+-- the bits of `mask` are the positions at which the sequence asked for stands
+abbrev pub StandsIn : (n : ℕ) → PageWords → List ℕ → (row mask : ℕ) → Type 0
+StandsIn n w ss row mask = Masks ss (w .filled) row (cellsFor n w) mask
+
 -- r is the first position from `slot` on at which the sequence asked for does not stand; 64 if there is none
 pub record Runs (n : ℕ) (w : PageWords) (ss : List ℕ) (slot row r : ℕ) : Type 0 where
   pub from : slot ≤ r

@@ -4,6 +4,7 @@ pub mod run;
 
 use call_base::distance;
 use call_base::reachable;
+use call_base::sequence_at;
 use page_base::page_cells;
 use page_base::page_words;
 use run::page_run;
@@ -15,17 +16,9 @@ ghost use mathlib.Core.Path.{_≡_};
 ghost use mathlib.Core.Bool.{true};
 ghost use Prim.Native.Nat.{_≤_};
 ghost use Rattle.window.specs.Memory.{capacity, position as positionOf};
-ghost use Rattle.model.specs.Table.{sequenceAt};
 ghost use Rattle.model.specs.Steps.{setPoint};
 ghost use Rattle.laws_acknowledge.specs.Increments.{afterRemove, leastCovered, afterRange};
 ghost use Rattle.acknowledge.specs.Contracts.{withSizes, pointStays, advanceFrom, ListsLent, LiveRun, Advances, PointFrom, Inserts, MovesPoint, MovesBase, DecidesCurrent};
-
-// The sequence at distance `d` from the base: sums are modulo 2^31.
-pub fn sequence_at(base: u32, d: u32) -> u32
-    ensures { λ r. ⌜ r ≡ sequenceAt base d ⌝ }
-{
-    std::num::wrapping_add_u32(base, d) % 0x8000_0000
-}
 
 // The first position from the sequence's own on, in its page, at which the sequence expected there is not live; 64 if all are.
 fn live_run(

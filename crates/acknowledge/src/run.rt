@@ -1,10 +1,11 @@
 // The live sequences of one page, from one of its positions upwards. `sequences` are the 64 cells of the page, and `row` says which
 // sequences are asked for: 64 × row + j at position j.
 use page_base::PageWords;
+use window::memory::PAGE_SLOTS;
 ghost use mathlib.Core.Path.{_≡_};
-ghost use Prim.Native.Nat.{_<_};
+ghost use Prim.Native.Nat.{_<_, _≤_};
 ghost use lib.ListN.{length};
-ghost use Rattle.acknowledge.specs.Contracts.{DenseRun, Masks, Runs};
+ghost use Rattle.acknowledge.specs.Contracts.{DenseRun, Masks, Runs, StandsIn};
 
 // Of a dense page, whose values are at their own positions.
 fn dense_run(sequences: &[u32], filled: u64, slot: usize, row: u32) -> usize
@@ -22,9 +23,9 @@ fn dense_run(sequences: &[u32], filled: u64, slot: usize, row: u32) -> usize
     end
 }
 
-// Of a sparse page: bit j, the sequence asked for at position j is in one of the first n cells.
-fn sparse_mask(sequences: &[u32], filled: u64, n: usize, row: u32) -> u64
-    requires { ⌜ (length (now sequences) ≡ 64) × (n < 64) ⌝ }
+// Bit j: the sequence asked for at position j is in one of the first n cells.
+fn row_mask(sequences: &[u32], filled: u64, n: usize, row: u32) -> u64
+    requires { ⌜ (length (now sequences) ≡ 64) × (n ≤ 64) ⌝ }
     ensures { λ r. ⌜ Masks (now (sequences .entry)) filled row n r ⌝ }
 {
     let mut mask: u64 = 0;
@@ -55,5 +56,21 @@ pub fn page_run(sequences: &[u32], w: PageWords, n: usize, slot: usize, row: u32
     if kind == 2 {
         return dense_run(sequences, filled, slot, row);
     }
-    words::lowest(!sparse_mask(sequences, filled, n, row), slot)
+    words::lowest(!row_mask(sequences, filled, n, row), slot)
+}
+
+// Bit j: the sequence asked for stands at position j.
+pub fn page_mask(sequences: &[u32], w: PageWords, n: usize, row: u32) -> u64
+    requires { ⌜ (length (now sequences) ≡ 64) × (n < 64) ⌝ }
+    ensures { λ r. ⌜ StandsIn n w (now (sequences .entry)) row r ⌝ }
+{
+    let kind = w.kind;
+    let filled = w.filled;
+    if filled == 0 {
+        return 0;
+    }
+    if kind == 2 {
+        return row_mask(sequences, filled, PAGE_SLOTS, row);
+    }
+    row_mask(sequences, filled, n, row)
 }

@@ -50,7 +50,7 @@ same-lengths : (u : State) → SameLengths (u .memory) (u .memory)
 same-lengths u = record { sequences = refl; values = refl; pages = refl; blocks = refl }
 
 -- a refusal for arguments
-refused-meets : (c : Call) (u : State) (l : List ℕ) (k : ℕ) → refusal u c ≡ k → (k ≡ 0 → ⊥) → Meets c u l (leaves u l (refused k))
+pub refused-meets : (c : Call) (u : State) (l : List ℕ) (k : ℕ) → refusal u c ≡ k → (k ≡ 0 → ⊥) → Meets c u l (leaves u l (refused k))
 refused-meets c u l k e n = record {
   refuses = λ h. (ap refused (sym e), unaltered u l (refused k));
   sound = λ z ok. absurd (n (sym e ∙ z));
@@ -130,7 +130,7 @@ pointed-acts c u l r h a right stays = record {
 -- ---- calls that are admitted
 
 -- a query that is not refused, and what it answers
-read-meets : (q : Query) (u : State) (a : model.Answer) → (askedOf q .checks ≡ true → (SoundWithPoint (windowOf u) → ⊥) → a ≡ refused 7) → refusal u (ask q) ≡ 0
+pub read-meets : (q : Query) (u : State) (a : model.Answer) → (askedOf q .checks ≡ true → (SoundWithPoint (windowOf u) → ⊥) → a ≡ refused 7) → refusal u (ask q) ≡ 0
     → (SoundWithPoint (windowOf u) → a ≡ windowAnswer (windowOf u) q) → Meets (ask q) u [] (leaves u [] a)
 unfolding windowDoes
 read-meets q u a unsound e is = record {
@@ -196,7 +196,7 @@ both-6 false false rest = refl
 -- t is the verdict on call c in state u, with `places` in its return list
 module _ (c : Call) (u : State) (places : ℕ) (listed : hasPlaces (roleOf c .listed) ≡ leb 384 places) (t : Verdict)
     (test : verdictNumber t ≡ admission (u .header) (length (u .memory .sequences)) (length (u .memory .values)) (length (u .memory .pages)) (length (u .memory .blocks)) places (roleOf c .arguments)) where
-  is-refusal : verdictNumber t ≡ refusal u c
+  pub is-refusal : verdictNumber t ≡ refusal u c
   unfolding fitsWithList
   is-refusal =
       test ∙ both-6 (leb 384 places) (lengthsFit u) (refusedFor (knownBy (u .header)) (roleOf c .arguments))
@@ -210,7 +210,7 @@ module _ (c : Call) (u : State) (places : ℕ) (listed : hasPlaces (roleOf c .li
 
   -- it passes
   module _ (pass : tagOf verdict.the-type t ≡ 0) where
-    none-applies : refusal u c ≡ 0
+    pub none-applies : refusal u c ≡ 0
     none-applies = sym is-refusal ∙ passes t pass
 
     -- header and lists fit, the return list has 384 places, and the arguments are taken

@@ -10,17 +10,18 @@ use Rattle.window.specs.Memory.{Memory, pageCount}
 use Rattle.model.specs.Window.{decode, isRetired}
 use Rattle.model.specs.Sound.{Sound}
 use Rattle.block_marks.proofs.BlockLaws.{block-at}
-use Rattle.call_base.specs.Contracts.{Reachable}
+use Rattle.call_base.specs.Contracts.{reachedBy, Reachable}
 use Rattle.call_base.proofs.FitLaws.{page-bounds}
+use Rattle.call_base.proofs.RetiredLaws.{reached-lt, reached-by}
 
-module _ (h : AdaptiveReceiverPacketWindow) (m : Memory) (ok : Sound (decode h m)) (g : ℕ) (below : g < pageCount (h .«window_size»)) (r : ℕ)
-    (is : Reachable h (m .blocks) g r) where
-  test : eqb r 1 ≡ not (isRetired (decode h m) g)
+module _ (h : AdaptiveReceiverPacketWindow) (m : Memory) (ok : Sound (decode h m)) (g : ℕ) (below : g < pageCount (h .«window_size»)) where
+  pub reached-live : eqb (reachedBy h (m .blocks) g) 1 ≡ not (isRetired (decode h m) g)
   unfolding decode
-  test = is .live (decode h m) ok refl (block-at h m (g / 64) (page-bounds (h .«window_size») g below .block)) below
+  reached-live = reached-by (decode h m) ok h refl (m .blocks) g (block-at h m (g / 64) (page-bounds (h .«window_size») g below .block)) below
 
-  pub unreachable : r ≡ 0 → isRetired (decode h m) g ≡ true
-  unreachable z = not-false _ (sym test ∙ ap (λ (x : ℕ). eqb x 1) z)
+  module _ (r : ℕ) (is : Reachable h (m .blocks) g r) where
+    pub unreachable : r ≡ 0 → isRetired (decode h m) g ≡ true
+    unreachable z = not-false _ (sym reached-live ∙ ap (λ (x : ℕ). eqb x 1) (sym is ∙ z))
 
-  pub is-reachable : (r ≡ 0 → ⊥) → isRetired (decode h m) g ≡ false
-  is-reachable n = not-true _ (sym test ∙ eq-eqb r 1 (omega (arith, is .bit)))
+    pub is-reachable : (r ≡ 0 → ⊥) → isRetired (decode h m) g ≡ false
+    is-reachable n = not-true _ (sym reached-live ∙ eq-eqb (reachedBy h (m .blocks) g) 1 (omega (arith, reached-lt h (m .blocks) g, is)))

@@ -1,8 +1,8 @@
 -- Whether a page's values are reachable, and what a call promises once it is admitted. Definitions only. Assumes nothing.
 use mathlib.Core.Path.{_≡_}
-use mathlib.Core.Bool.{Bool, not}
+use mathlib.Core.Bool.{Bool, cond}
 use mathlib.Core.List.{List, []}
-use Prim.Native.Nat.{ℕ, _/_, _≤_, _<_}
+use Prim.Native.Nat.{ℕ, _-_, _/_, _≤_}
 use denote.Ref.{now}
 use lib.Dec.{leb, eqb}
 use lib.ListN.{length, drop}
@@ -10,19 +10,22 @@ use Rattle.window.specs.declared.AdaptiveReceiverPacketWindow.{AdaptiveReceiver
 use Rattle.window.specs.declared.answers.Answer.{Answer}
 use Rattle.window.specs.declared.answers.Step.{Step}
 use Rattle.window.specs.Lent.{Lent, foundIn, leftIn}
-use Rattle.model.specs.Window.{Window, isRetired, pagesOf}
+use Rattle.model.specs.Window.{Window}
 use Rattle.model.specs.Calls.{Query, Call, refused}
 use Rattle.model.specs.Steps.{Effect, effect, windowAnswer, windowDoes, windowActs}
 use Rattle.model.specs.Sound.{Sound, SoundWithPoint}
 use Rattle.model.specs.Contract.{State, Left, windowOf, SamePast, SameLengths, Unaltered, DoesAs}
 use Rattle.page_remove.specs.Contracts.{Wrote, stretch}
-use Rattle.block_marks.specs.Blocks.{blockWordsAt, blockOf}
+use Rattle.block_marks.specs.Marks.{pageRetired}
+use Rattle.block_marks.specs.Blocks.{blockWordsAt}
 use Rattle.call_base.specs.Answers.{answerOf, stateOf, leftOf}
 
--- of every sound window with this header and these words of the page's block
-pub record Reachable (h : AdaptiveReceiverPacketWindow) (blocks : List ℕ) (g r : ℕ) : Type 0 where
-  pub bit : r < 2
-  pub live : (v : Window) → Sound v → v .header ≡ h → v .blocks (g / 64) ≡ blockOf (blockWordsAt blocks (g / 64)) → g < pagesOf v → eqb r 1 ≡ not (isRetired v g)
+-- whether values of page g are reachable, 1 or 0: always, unless some retired value is held; then by the marks
+abbrev pub reachedBy : AdaptiveReceiverPacketWindow → (blocks : List ℕ) → ℕ → ℕ
+reachedBy h blocks g = cond (eqb (h .«retired_held») 0) 1 (1 - pageRetired (h .«retired_blocks») (blockWordsAt blocks (g / 64)) g)
+
+abbrev pub Reachable : AdaptiveReceiverPacketWindow → (blocks : List ℕ) → (g r : ℕ) → Type 0
+Reachable h blocks g r = r ≡ reachedBy h blocks g
 
 -- ---- a call that no refusal for arguments applies to
 

@@ -1,4 +1,5 @@
-// What the calls share: an outcome with nothing returned, whether a page's values are reachable, and the count of a range; admits.rt
+// What the calls share: an outcome with nothing returned, whether a page's values are reachable, sequences and distances, and the
+// count of a range; admits.rt
 // has the refusals.
 pub mod admits;
 
@@ -12,7 +13,7 @@ use window::refusals::Refusal;
 ghost use mathlib.Core.Path.{_≡_};
 ghost use Prim.Native.Nat.{_+_, _/_, _<_};
 ghost use Rattle.window.specs.Memory.{blockWords, rowIn};
-ghost use Rattle.model.specs.Table.{rangeCount, distance as distanceOf};
+ghost use Rattle.model.specs.Table.{rangeCount, sequenceAt, distance as distanceOf};
 ghost use Rattle.page_base.specs.Contracts.{readAnswer};
 ghost use Rattle.call_base.specs.Answers.{answerOf, replied, refusedBy};
 ghost use Rattle.call_base.specs.Contracts.{Reachable};
@@ -53,6 +54,13 @@ pub fn reachable(w: AdaptiveReceiverPacketWindow, blocks: &[u64], page: usize) -
         return 1;
     }
     1 - page_retired(blocks, w.retired_blocks, page)
+}
+
+// The sequence at distance `d` from the base: sums are modulo 2^31.
+pub fn sequence_at(base: u32, d: u32) -> u32
+    ensures { λ r. ⌜ r ≡ sequenceAt base d ⌝ }
+{
+    std::num::wrapping_add_u32(base, d) % 0x8000_0000
 }
 
 // How far a sequence is from a base: 31 bits.

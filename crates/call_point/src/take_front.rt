@@ -1,11 +1,11 @@
 // take_front: the value of the base, removed, and the base moved by one. If the base is absent, nothing moves.
 use crate::remove::remove_value;
 use acknowledge::after_base;
-use acknowledge::sequence_at;
 use call_base::admits::Arguments;
 use call_base::admits::NO_LIST;
 use call_base::admits::admits;
 use call_base::refuse;
+use call_base::sequence_at;
 use window::AdaptiveReceiverPacketWindow;
 use window::answers::Answer;
 use window::answers::Step;

@@ -4,13 +4,15 @@ use mathlib.Core.Bool.{Bool, true, false, cond, true≢false, _&&_}
 use mathlib.Core.Option.{Option, none, some}
 use Prim.Native.Nat.{ℕ, zero, suc, _+_, _-_, _%_}
 use lib.Dec.{eqb, leb, ltb}
+use lib.ListN.{length}
 use Rattle.words.proofs.CaseLaws.{bool}
 use Rattle.words.specs.First.{firstFrom, firstRound}
 use Rattle.window.specs.Memory.{position}
 use Rattle.window.specs.Refusals.{isWireNumber}
-use Rattle.model.specs.Calls.{Query, get, successor-after, first-from, iter, stranger, check, Call, insert, exchange, remove, remove-range, clear, clear-bounded, release-retired, set-base, take-front, ask, Answer, done, new, replaced, absent, found, pair, ended, released, refused}
-use Rattle.model.specs.Roles.{Arguments, no-argument, sequence-argument, range-argument, number-argument, base-argument, roleOf}
-use Rattle.model.specs.Table.{Pair, Table, holds, valueIf, rangeCount, covers, sequenceOf, searchFrom, isStranger, pairAnswer, strangerIn, Known, first, limitRefusal, areWireNumbers, refusedFor, hasPlaces, argumentRefusal}
+use Rattle.model.specs.Calls.{Query, get, successor-after, first-from, iter, stranger, check, write-losses, read-losses, Call, insert, exchange, remove, remove-range, clear, clear-bounded, release-retired, set-base, take-front, ask, Answer, done, new, replaced, absent, found, pair, ended, released, refused}
+use Rattle.model.specs.Roles.{Arguments, no-argument, sequence-argument, range-argument, number-argument, base-argument, report-argument, roleOf}
+use Rattle.model.specs.Losses.{isLossList}
+use Rattle.model.specs.Table.{Pair, Table, holds, valueIf, rangeCount, covers, sequenceOf, searchFrom, isStranger, pairAnswer, strangerIn, lossList, Known, first, limitRefusal, areWireNumbers, refusedFor, hasPlaces, argumentRefusal}
 use Rattle.model.specs.Window.{Page, Window, sizeOf, capacityOf, cellOf, liveAt, isReached, cellPair, readsOf, iterStep}
 use Rattle.model.specs.Pages.{valuesIn, insertPage}
 use Rattle.model.specs.Steps.{Effect, pageOf, liveHere, revive, insertStep, exchangeStep, removeStep, rangeStep, clearStep, clearBoundedStep, releaseStep, frontStep, unlessRefused, windowAnswer, knownBy, windowActs, windowStep, windowDoes}
@@ -75,6 +77,10 @@ limit-not-7 k (sequence-argument s) = refl
 limit-not-7 k (range-argument a b) = tested-not-7 5 (leb (rangeCount a b) (k .size)) 0 refl refl
 limit-not-7 k (number-argument n) = tested-not-7 8 (leb n 256) 0 refl refl
 limit-not-7 k (base-argument s) = tested-not-7 9 (isWireNumber s) 0 refl refl
+limit-not-7 k (report-argument a b words places) =
+    let n = rangeCount a b in
+    tested-not-7 5 (leb n (k .size)) (first 11 (leb n places) (first 12 (isLossList a n words) 0)) refl
+    (tested-not-7 11 (leb n places) (first 12 (isLossList a n words) 0) refl (tested-not-7 12 (isLossList a n words) 0 refl refl))
 
 refused-for-not-7 : (k : Known) (a : Arguments) → isSeven (refused (refusedFor k a)) ≡ false
 refused-for-not-7 k a = tested-not-7 10 (areWireNumbers a) (limitRefusal k a) refl (limit-not-7 k a)
@@ -117,6 +123,10 @@ module _ (w : Window) where
   query-not-7 (iter cell) = iter-answer cell
   query-not-7 (stranger a b) = stranger-answer a b
   query-not-7 check = refl
+  query-not-7 (write-losses a b places) =
+      let words = lossList (sizeOf w) (liveAt w) a b in
+      neither (found (length words)) (refused 11) (leb (length words) places) refl refl
+  query-not-7 (read-losses a b words places) = refl
 
   -- no call gives 7 on a window
   answer-not-7 : (c : Call) → isSeven (windowDoes w c .answer) ≡ false

@@ -11,7 +11,7 @@ use Rattle.words.proofs.CaseLaws.{bool}
 use Rattle.words.specs.First.{firstFrom}
 use Rattle.window.specs.Memory.{position}
 use Rattle.window.proofs.MemoryLaws.{position-slot}
-use Rattle.model.specs.Calls.{Query, get, successor-after, first-from, iter, stranger, check, insert, exchange, remove, set-base, take-front, ask}
+use Rattle.model.specs.Calls.{Query, get, successor-after, first-from, iter, stranger, check, write-losses, read-losses, insert, exchange, remove, set-base, take-front, ask}
 use Rattle.model.specs.Roles.{ifRefused, roleOf, toldOf}
 use Rattle.model.specs.Table.{Pair, Table, at, sequenceAt, putAt, putAnswer, exchangeAt, removeAt, tableAnswer, finds}
 use Rattle.model.specs.Window.{Page, Window, sizeOf, capacityOf, pagesOf, cellOf, standsAt, isRetired, liveAt, retiredAt, isReached, iterStep}
@@ -202,6 +202,8 @@ asked-as w (first-from s) = refl
 asked-as w (iter cell) = iter-answers w cell
 asked-as w (stranger a b) = refl
 asked-as w check = refl
+asked-as w (write-losses a b places) = refl
+asked-as w (read-losses a b words places) = refl
 
 pub ask-follows : (w : Window) (q : Query) → Follows w (ask q)
 unfolding does windowDoes

@@ -11,7 +11,8 @@ use Rattle.words.specs.Word.{bitAt, withBit, countBelow, span, wordBelow, lowes
 use Rattle.window.specs.Memory.{Memory, capacity}
 use Rattle.window.specs.Refusals.{limits, longEnough}
 use Rattle.window.specs.New.{fresh as freshHeader, made, refused as notMade, newResult, cleared, shortMemory, newOf}
-use Rattle.model.specs.Calls.{get, successor-after, first-from, iter, stranger, check, Call, insert, exchange, remove, ask, remove-range, clear, clear-bounded, release-retired, set-base, take-front, Answer, done, new, absent, found, pair, ended, released, refused}
+use Rattle.model.specs.Calls.{get, successor-after, first-from, iter, stranger, check, write-losses, read-losses, Call, insert, exchange, remove, ask, remove-range, clear, clear-bounded, release-retired, set-base, take-front, Answer, done, new, absent, found, pair, ended, released, refused}
+use Rattle.model.specs.Losses.{flagsFrom, runWords, wordsFrom, namesAfter, same}
 use Rattle.model.specs.Table.{pairOf, fresh, at, rangeCount, distance, sum, heldInRange, searchFrom, strangerIn, known, argumentRefusal, tableStep, tableDoes}
 use Rattle.model.specs.Point.{reach}
 use Rattle.model.specs.Positions.{Positions, positions, plain, drain, inPage, sweep, sweepRange, release, step, does}
@@ -208,7 +209,7 @@ wire-numbers : lines (afterNew 64 8 2)
 unfolding firstFrom firstRound bitAt withBit countBelow span wordBelow lowest capacity freshHeader freshWindow rangeCount distance sum heldInRange searchFrom cellOf freeCell promoted nthSet packed insertPage drainPage noteNonempty splitBlock releasePage nextRetired releaseUnits revive removeSlots insertStep exchangeStep removeStep windowDoes iterStep
 wire-numbers = refl
 
--- ---- the order of the refusals for arguments: 6, then 10, then 5, 8 or 9
+-- ---- the order of the refusals for arguments: 6, then 10, then 5, 8 or 9; after 5, of a loss report that is read, 11 and 12
 
 order :
     (argumentRefusal (known 64) (insert 2147483648 1 false) ≡ 6) × (argumentRefusal (known 64) (insert 2147483648 1 true) ≡ 10) × (argumentRefusal (known 64) (insert 2147483647 1 true) ≡ 0)
@@ -224,5 +225,9 @@ order :
     × (argumentRefusal (known 64) (ask (first-from 2147483648)) ≡ 10) × (argumentRefusal (known 64) (ask (first-from 2147483647)) ≡ 0)
     × (argumentRefusal (known 64) (ask (iter 2147483648)) ≡ 0) × (argumentRefusal (known 64) (ask check) ≡ 0)
     × (argumentRefusal (known 64) (ask (stranger 2147483648 2147483647)) ≡ 10) × (argumentRefusal (known 64) (ask (stranger 5 2147483653)) ≡ 10) × (argumentRefusal (known 64) (ask (stranger 5 4)) ≡ 5) × (argumentRefusal (known 64) (ask (stranger 0 63)) ≡ 0)
-unfolding rangeCount distance
-order = (refl, refl, refl, refl, refl, refl, refl, refl, refl, refl, refl, refl, refl, refl, refl, refl, refl, refl, refl, refl, refl, refl, refl, refl, refl, refl, refl, refl, refl, refl, refl, refl, refl, refl, refl, refl, refl)
+    × (argumentRefusal (known 64) (ask (write-losses 2147483648 2147483647 0)) ≡ 10) × (argumentRefusal (known 64) (ask (write-losses 5 2147483653 0)) ≡ 10) × (argumentRefusal (known 64) (ask (write-losses 5 4 0)) ≡ 5) × (argumentRefusal (known 64) (ask (write-losses 0 63 0)) ≡ 0)
+    × (argumentRefusal (known 64) (ask (read-losses 2147483648 2147483647 (1 ∷ 1 ∷ []) 0)) ≡ 10) × (argumentRefusal (known 64) (ask (read-losses 5 2147483653 (1 ∷ 1 ∷ []) 0)) ≡ 10) × (argumentRefusal (known 64) (ask (read-losses 5 4 (1 ∷ 1 ∷ []) 0)) ≡ 5)
+    × (argumentRefusal (known 64) (ask (read-losses 5 9 (7 ∷ 7 ∷ []) 4)) ≡ 11) × (argumentRefusal (known 64) (ask (read-losses 5 9 (7 ∷ 7 ∷ []) 5)) ≡ 12) × (argumentRefusal (known 64) (ask (read-losses 5 9 (7 ∷ 8 ∷ []) 4)) ≡ 11) × (argumentRefusal (known 64) (ask (read-losses 5 9 (7 ∷ 8 ∷ []) 5)) ≡ 0)
+    × (argumentRefusal (known 64) (ask (read-losses 2147483646 1 (4294967294 ∷ 1 ∷ []) 4)) ≡ 0)
+unfolding rangeCount distance flagsFrom runWords wordsFrom namesAfter same
+order = (refl, refl, refl, refl, refl, refl, refl, refl, refl, refl, refl, refl, refl, refl, refl, refl, refl, refl, refl, refl, refl, refl, refl, refl, refl, refl, refl, refl, refl, refl, refl, refl, refl, refl, refl, refl, refl, refl, refl, refl, refl, refl, refl, refl, refl, refl, refl, refl, refl)

@@ -1,5 +1,6 @@
 -- The calls of documents 01 and 02 and what they answer. Definitions only. Assumes nothing.
 use mathlib.Core.Bool.{Bool}
+use mathlib.Core.List.{List}
 use Prim.Native.Nat.{ℕ}
 
 -- The calls that change nothing, with their arguments.
@@ -10,6 +11,9 @@ pub data Query : Type 0 where
   iter : (cell : ℕ) → Query
   stranger : (first last : ℕ) → Query
   check : Query
+  -- document 02, S-4. Of a list that is written only its length is told, in `places`
+  write-losses : (first last places : ℕ) → Query
+  read-losses : (first last : ℕ) (words : List ℕ) (places : ℕ) → Query
 
 -- The calls that a list of calls may hold. Of a return list only this is told, in `listed`: whether it has 384 places.
 pub data Call : Type 0 where
@@ -34,7 +38,8 @@ pub data Answer : Type 0 where
   replaced : (value : ℕ) → Answer
   -- no such sequence, no live pair, no stranger
   absent : Answer
-  -- a value (get, exchange, remove, take_front), a sequence (successor_after, first_from), a number (remove_range, clear_bounded)
+  -- a value (get, exchange, remove, take_front), a sequence (successor_after, first_from), a number (remove_range, clear_bounded,
+  -- write_losses, read_losses)
   found : (number : ℕ) → Answer
   -- a pair, the cell after it and the reads of retired words (iter); a pair, 0 and 0 (stranger)
   pair : (sequence value next reads : ℕ) → Answer

@@ -2,6 +2,8 @@
 -- window seen from its positions, what a head owes so that demand 3 holds of it, and runs for examples. No proofs: those are in proofs/.
 pub mod Calls
 pub mod Roles
+pub mod Sequences
+pub mod Losses
 pub mod Table
 pub mod Point
 pub mod Demand3
@@ -14,4 +16,5 @@ pub mod Heads
 pub mod Positions
 pub mod Refinement
 pub mod Strangers
+pub mod Reports
 pub mod Runs

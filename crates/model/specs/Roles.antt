@@ -4,7 +4,7 @@ use mathlib.Core.Bool.{Bool, true, false}
 use mathlib.Core.Option.{Option, none, some}
 use mathlib.Core.List.{List, [], _∷_}
 use Prim.Native.Nat.{ℕ}
-use Rattle.model.specs.Calls.{Query, get, successor-after, first-from, iter, stranger, check, Call, insert, exchange, remove, remove-range, clear, clear-bounded, release-retired, set-base, take-front, ask, Answer, done, new, replaced, absent, found, pair, ended, released, refused}
+use Rattle.model.specs.Calls.{Query, get, successor-after, first-from, iter, stranger, check, write-losses, read-losses, Call, insert, exchange, remove, remove-range, clear, clear-bounded, release-retired, set-base, take-front, ask, Answer, done, new, replaced, absent, found, pair, ended, released, refused}
 
 -- ---- the arguments that a refusal looks at
 
@@ -14,6 +14,8 @@ pub data Arguments : Type 0 where
   range-argument : (first last : ℕ) → Arguments
   number-argument : ℕ → Arguments
   base-argument : ℕ → Arguments
+  -- a range, a loss list, and how many places there are for its bytes
+  report-argument : (first last : ℕ) (words : List ℕ) (places : ℕ) → Arguments
 
 -- ---- what an answer says of values
 
@@ -135,6 +137,8 @@ askedOf (first-from s) = asked (sequence-argument s) whole false
 askedOf (iter cell) = asked no-argument ifRefused false
 askedOf (stranger a b) = asked (range-argument a b) whether false
 askedOf check = asked no-argument whole true
+askedOf (write-losses a b places) = asked (range-argument a b) whole false
+askedOf (read-losses a b words places) = asked (report-argument a b words places) whole false
 
 -- arguments, return list, told, accepted, handed back; emptying, release, check
 abbrev pub roleOf : Call → Role

@@ -10,8 +10,9 @@ use Rattle.words.specs.First.{firstRound}
 use Rattle.words.specs.Word.{isSet, withBit, setBit, clearBit, wordOf, span}
 use Rattle.window.specs.declared.AdaptiveReceiverPacketWindow.{AdaptiveReceiverPacketWindow}
 use Rattle.window.specs.Memory.{position}
-use Rattle.model.specs.Calls.{Query, get, successor-after, first-from, iter, stranger, check, Call, insert, exchange, remove, remove-range, clear, clear-bounded, release-retired, set-base, take-front, ask, Answer, done, new, replaced, absent, found, pair, ended, released, refused}
-use Rattle.model.specs.Table.{Pair, valueIf, finds, sequenceAt, rangeCount, within, sum, heldInRange, searchFrom, strangerIn, Known, known, argumentRefusal}
+use Rattle.model.specs.Calls.{Query, get, successor-after, first-from, iter, stranger, check, write-losses, read-losses, Call, insert, exchange, remove, remove-range, clear, clear-bounded, release-retired, set-base, take-front, ask, Answer, done, new, replaced, absent, found, pair, ended, released, refused}
+use Rattle.model.specs.Losses.{namedFlags, lostCount}
+use Rattle.model.specs.Table.{Pair, valueIf, finds, sequenceAt, rangeCount, within, sum, heldInRange, searchFrom, strangerIn, lossList, wordsAnswer, Known, known, argumentRefusal}
 use Rattle.model.specs.Demand3.{one}
 use Rattle.model.specs.Window.{Page, Block, Window, window, upd, sizeOf, capacityOf, pagesOf, blocksOf, cellOf, isRetired, liveAt, pointFor, iterStep}
 use Rattle.model.specs.Pages.{valuesIn, holdsValue, setValue, takeCell, unlessEmptied, demotes, afterRemoval, insertPage, drainPage}
@@ -393,6 +394,9 @@ windowAnswer w (first-from s) = searchFrom (capacityOf w) (liveAt w) (position (
 windowAnswer w (iter cell) = iterStep w cell
 windowAnswer w (stranger a b) = strangerIn (sizeOf w) (liveAt w) a b
 windowAnswer w check = done
+-- document 02, S-4: "The writer answers the number of words"; the reader "answers how many are lost"
+windowAnswer w (write-losses a b places) = wordsAnswer places (lossList (sizeOf w) (liveAt w) a b)
+windowAnswer w (read-losses a b words places) = found (lostCount (namedFlags a (rangeCount a b) words))
 
 -- what a call does that is not refused for its arguments, the point left as it is
 unfoldable pub windowDoes : Window → Call → Effect

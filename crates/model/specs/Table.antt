@@ -1,13 +1,18 @@
 -- Document 01, 'The plain table', and the base of document 02, S-1. It is fed window_size and the calls' arguments alone. Definitions only. Assumes nothing.
 use mathlib.Core.Bool.{Bool, true, false, cond, _&&_, _||_}
 use mathlib.Core.Option.{Option, none, some}
-use Prim.Native.Nat.{ℕ, zero, suc, _+_, _-_, _%_, _^_}
+use mathlib.Core.List.{List}
+use Prim.Native.Nat.{ℕ, zero, suc, _+_}
 use lib.Dec.{leb, ltb, eqb}
+use lib.ListN.{length}
 use Rattle.words.specs.First.{firstRound}
 use Rattle.window.specs.Memory.{capacity, position}
 use Rattle.window.specs.Refusals.{isWireNumber}
-use Rattle.model.specs.Calls.{Query, get, successor-after, first-from, iter, stranger, check, Call, insert, exchange, remove, remove-range, clear, clear-bounded, release-retired, set-base, take-front, ask, Answer, done, new, replaced, absent, found, pair, refused}
-use Rattle.model.specs.Roles.{Arguments, no-argument, sequence-argument, range-argument, number-argument, base-argument, roleOf}
+pub use Rattle.model.specs.Sequences.{sequenceAt}
+unfoldable pub use Rattle.model.specs.Sequences.{distance}
+use Rattle.model.specs.Losses.{lossFlags, lossWords, namedFlags, isLossList, lostCount}
+use Rattle.model.specs.Calls.{Query, get, successor-after, first-from, iter, stranger, check, write-losses, read-losses, Call, insert, exchange, remove, remove-range, clear, clear-bounded, release-retired, set-base, take-front, ask, Answer, done, new, replaced, absent, found, pair, refused}
+use Rattle.model.specs.Roles.{Arguments, no-argument, sequence-argument, range-argument, number-argument, base-argument, report-argument, roleOf}
 
 pub record Pair : Type 0 where
   pub sequence : ℕ
@@ -67,16 +72,6 @@ abbrev pub removeAt : ℕ → Option Pair → Option Pair
 removeAt s none = none
 removeAt s (some e) = cond (eqb (e .sequence) s) none (some e)
 
--- ---- sequences from a base
-
--- "Sums with the base are modulo 2^31" (document 02, S-1): the sequence at distance d from the base
-abbrev pub sequenceAt : ℕ → ℕ → ℕ
-sequenceAt base d = (base + d) % 2 ^ 31
-
--- how far a sequence is from a base: a range's count less 1
-unfoldable pub distance : ℕ → ℕ → ℕ
-distance base s = (s + 2 ^ 32 - base) % 2 ^ 32 % 2 ^ 31
-
 -- ---- ranges of positions
 
 -- "count = ((last − first) modulo 2^32, lowest 31 bits) + 1"
@@ -134,6 +129,19 @@ strangerIn size t first last =
     let q = firstRound (λ (r : ℕ). covers (capacity size) start (rangeCount first last) r && isStranger first (rangeCount first last) (t r)) (capacity size) start in
     cond (ltb q (capacity size)) (pairAnswer (t q)) absent
 
+-- ---- loss reports (document 02, S-4)
+
+-- which sequences of first..last are lost: those that get does not find
+abbrev pub lossesIn : ℕ → Table → (first last : ℕ) → List Bool
+lossesIn size t first last = lossFlags (λ (s : ℕ). finds s (t (position size s))) first (rangeCount first last)
+
+unfoldable pub lossList : ℕ → Table → (first last : ℕ) → List ℕ
+lossList size t first last = lossWords first (lossesIn size t first last)
+
+-- "The writer answers the number of words"; "11, a list shorter than the words .. to write"
+abbrev pub wordsAnswer : (places : ℕ) → List ℕ → Answer
+wordsAnswer places words = cond (leb (length words) places) (found (length words)) (refused 11)
+
 -- ---- refusals that are decided before the window is looked at; 0 for none
 
 -- what they may look at besides the arguments
@@ -155,6 +163,13 @@ limitRefusal k (sequence-argument s) = 0
 limitRefusal k (range-argument a b) = first 5 (leb (rangeCount a b) (k .size)) 0
 limitRefusal k (number-argument n) = first 8 (leb n 256) 0
 limitRefusal k (base-argument s) = first 9 (isWireNumber s) 0
+-- the reader of loss reports: 5 "as remove_range does"; "11, a list shorter than the .. bytes to write, after 5; 12, a list that the writer
+-- could write for no set of losses, after 11". (The writer's 11 is decided by the window.)
+limitRefusal k (report-argument a b words places) =
+    first 5 (leb (rangeCount a b) (k .size))
+    (first 11 (leb (rangeCount a b) places)
+    (first 12 (isLossList a (rangeCount a b) words)
+    0))
 
 -- whether "a sequence, first or last" are wire numbers (document 02, S-3). A base is none of them: the call that sets it "keeps 9"
 abbrev pub areWireNumbers : Arguments → Bool
@@ -163,6 +178,7 @@ areWireNumbers (sequence-argument s) = isWireNumber s
 areWireNumbers (range-argument a b) = isWireNumber a && isWireNumber b
 areWireNumbers (number-argument n) = true
 areWireNumbers (base-argument s) = true
+areWireNumbers (report-argument a b words places) = isWireNumber a && isWireNumber b
 
 -- "10, a sequence, first or last of 2147483648 or more, after 6 and before 4, 5 and 8"
 abbrev pub refusedFor : Known → Arguments → ℕ
@@ -230,6 +246,9 @@ tableAnswer size t (iter cell) = none
 tableAnswer size t (stranger a b) = some (strangerIn size (t .pairs) a b)
 -- "Every call keeps a sound state sound", so a head's check never gives 7
 tableAnswer size t check = some done
+tableAnswer size t (write-losses a b places) = some (wordsAnswer places (lossList size (t .pairs) a b))
+-- "and answers how many are lost"
+tableAnswer size t (read-losses a b words places) = some (found (lostCount (namedFlags a (rangeCount a b) words)))
 
 -- what a call does that is not refused for its arguments
 unfoldable pub tableDoes : ℕ → TableState → Call → Outcome

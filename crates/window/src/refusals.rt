@@ -10,7 +10,7 @@ ghost use mathlib.Core.Path.{_≡_};
 ghost use Prim.Native.Nat.{_≤_};
 ghost use Rattle.window.specs.Refusals.{refusalNumber, verdictNumber, limits as limitsOf, longEnough, fits as fitsOf, fitsWithList, isWireNumber};
 
-// The refusals of documents 01 and 02, in the order of their numbers 1 to 10 (`refusalNumber`).
+// The refusals of documents 01 and 02, in the order of their numbers 1 to 12 (`refusalNumber`).
 pub enum Refusal {
     WindowSize,
     SparseCells,
@@ -22,6 +22,8 @@ pub enum Refusal {
     Budget,
     Base,
     Sequence,
+    ShortList,
+    LossList,
 }
 
 // The number of a refusal.
@@ -39,6 +41,8 @@ pub fn refusal_number(why: Refusal) -> u32
         Refusal::Budget => 8,
         Refusal::Base => 9,
         Refusal::Sequence => 10,
+        Refusal::ShortList => 11,
+        Refusal::LossList => 12,
     }
 }
 

@@ -18,14 +18,14 @@ dense-run-requires c κs = search needs
 returns-2 : tie.Need-returns-2
 returns-2 c = run-dense _ _ _ _ _ (omega arith) _ (c .before .if2 .taken) (c .dense-run .ensures)
 
-sparse-mask-requires : tie.Need-sparse-mask-requires
-sparse-mask-requires c κs = search needs
+row-mask-requires : tie.Need-row-mask-requires
+row-mask-requires c κs = search needs
 
 lowest-requires : tie.Need-lowest-requires
 lowest-requires c κs = search needs
 
 returns-3 : tie.Need-returns-3
-returns-3 c = run-sparse _ _ _ _ _ (omega arith) _ _ (c .before .before .if2 .left) (omega arith) (omega arith) (c .before .sparse-mask .ensures) (c .lowest .ensures)
+returns-3 c = run-sparse _ _ _ _ _ (omega arith) _ _ (c .before .before .if2 .left) (omega arith) (omega arith) (c .before .row-mask .ensures) (c .lowest .ensures)
 
 pub page-run-spec : {M : Type 1} → statement M
 page-run-spec =
@@ -35,6 +35,6 @@ page-run-spec =
     returns
     dense-run-requires
     returns-2
-    sparse-mask-requires
+    row-mask-requires
     lowest-requires
     returns-3)

@@ -7,7 +7,7 @@ use Rattle.call_point.proofs.take_front.move_base.Tie as tie
 use Rattle.call_point.proofs.take_front.move_base.Reads as reads
 use Rattle.call_point.proofs.take_front.move_base.Lts as lts
 use Rattle.acknowledge.proofs.after_base.Reads as after-base-reads
-use Rattle.acknowledge.proofs.sequence_at.Reads as sequence-at-reads
+use Rattle.call_base.proofs.sequence_at.Reads as sequence-at-reads
 
 enum-known-given : tie.Need-enum-known-given
 enum-known-given c = search needs

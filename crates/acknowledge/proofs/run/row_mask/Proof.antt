@@ -6,8 +6,8 @@ use native.Mathlib.Omega.{arith}
 use Rattle.acknowledge.specs.Contracts.{Masks}
 use Rattle.acknowledge.proofs.RunLaws.{mask-none, mask-skip, mask-put}
 use borrow.Author.Needs.{needs}
-use Rattle.acknowledge.proofs.run.sparse_mask.Statement.{statement}
-use Rattle.acknowledge.proofs.run.sparse_mask.Tie as tie
+use Rattle.acknowledge.proofs.run.row_mask.Statement.{statement}
+use Rattle.acknowledge.proofs.run.row_mask.Tie as tie
 
 abbrev Inv-loop : tie.InvT-loop
 Inv-loop sequences filled n row mask₀ c₀ mask c = (c ≤ n) × Masks sequences filled row c mask
@@ -59,8 +59,8 @@ returns c =
     let e : c .before .loop .c ≡ c .before .before .before .args .n = omega arith in
     rw e at (i .1)
 
-pub sparse-mask-spec : {M : Type 1} → statement M
-sparse-mask-spec =
+pub row-mask-spec : {M : Type 1} → statement M
+row-mask-spec =
     tie.close
     (tie.spec
     Inv-loop

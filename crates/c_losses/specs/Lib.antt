@@ -1,0 +1,2 @@
+-- The contracts of the two calls in numbers (Contracts).
+pub mod Contracts

@@ -1,0 +1,2 @@
+-- What the functions promise (Contracts).
+pub mod Contracts
