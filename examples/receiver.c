@@ -1,6 +1,6 @@
 /*
- * A receiver: packets come out of order, are acknowledged by the window's point and taken from its front; a late range is dropped, and
- * retired stores are released within a budget for each visit.
+ * A receiver: packets come out of order, are acknowledged by the window's point and taken from its front; those that have not come are
+ * reported to the sender, which sends them again; a late range is dropped, and retired stores are released within a budget for each visit.
  *
  *     cc -std=c99 -Iinclude -o receiver examples/receiver.c target/libpacket_window.a
  *
@@ -9,6 +9,7 @@
  */
 #include "packet_window.h"
 
+#include <arpa/inet.h>
 #include <stdio.h>
 #include <stdlib.h>
 
@@ -17,6 +18,7 @@
 #define DEMOTE_AT 4
 #define FIRST_SEQUENCE 2147483000u /* the 31-bit sequence numbers wrap during the run */
 #define PACKETS 900u
+#define OLDEST_KEPT 400u /* packets before this one the sender no longer has when it is told that they are lost */
 #define STORES 1024u
 #define BUDGET 64u
 
@@ -33,6 +35,29 @@ static uint32_t returned[PACKET_WINDOW_RETURN_PLACES];
 #define LENGTH(list) (sizeof(list) / sizeof((list)[0]))
 #define LIST(list) (list), LENGTH(list)
 #define LISTS LIST(sequences), LIST(values), LIST(pages), LIST(blocks)
+
+/* A loss list, in host order and as a packet carries it, and what it says of each packet. */
+static uint32_t words[PACKET_WINDOW_LOSS_WORDS(WINDOW_SIZE)];
+static uint32_t wire[PACKET_WINDOW_LOSS_WORDS(WINDOW_SIZE)];
+static uint8_t lost[WINDOW_SIZE];
+
+/* ---- 31-bit sequence numbers */
+
+static uint32_t after(uint32_t sequence, uint32_t steps)
+{
+    return (sequence + steps) & 0x7fffffffu;
+}
+
+static uint32_t distance(uint32_t first, uint32_t sequence)
+{
+    return (sequence - first) & 0x7fffffffu;
+}
+
+/* Packet i of the stream. */
+static uint32_t sequence_of(uint32_t i)
+{
+    return after(FIRST_SEQUENCE, i);
+}
 
 /* ---- the ledger of packet stores */
 
@@ -121,6 +146,29 @@ static void receive(uint32_t sequence)
     }
 }
 
+/* The packets first to last that have not come, as the words of a loss report (NAK) to the sender; how many words. */
+static uint32_t write_report(uint32_t first, uint32_t last)
+{
+    packet_window_answer answer = packet_window_write_losses(window, LISTS, LIST(words), first, last).answer;
+    uint32_t i;
+    expect(answer, PACKET_WINDOW_FOUND);
+    for (i = 0; i < answer.first; i++)
+        wire[i] = htonl(words[i]);
+    return answer.first;
+}
+
+/* The sender reads a report of so many words: which packets of first to last it names, and how many. */
+static uint32_t read_report(uint32_t first, uint32_t last, uint32_t count)
+{
+    packet_window_answer answer;
+    uint32_t i;
+    for (i = 0; i < count; i++)
+        words[i] = ntohl(wire[i]);
+    answer = packet_window_read_losses(window, LISTS, words, count, LIST(lost), first, last).answer;
+    expect(answer, PACKET_WINDOW_FOUND); /* a report that was damaged on the way is refused, 12, or names other packets */
+    return answer.first;
+}
+
 /* The next packet in order is shown, and its store is free again; 0 if it has not come. */
 static int deliver(void)
 {
@@ -172,10 +220,19 @@ static void report(const char *what, uint32_t number)
     expect(packet_window_check(window, LISTS).answer, PACKET_WINDOW_DONE);
 }
 
-/* Packet i of the stream, as a 31-bit sequence number. */
-static uint32_t sequence_of(uint32_t i)
+/* A gap is seen: packets after the acknowledged one have come. The lost ones are reported, and the sender sends those again that it has. */
+static void fill_gap(void)
 {
-    return (FIRST_SEQUENCE + i) & 0x7fffffffu;
+    uint32_t first = acknowledged(), last = sequence_of(PACKETS - 1), sequence;
+    uint32_t count = write_report(first, last), losses = read_report(first, last, count);
+    printf("reported lost %u, in %u words\n", (unsigned)losses, (unsigned)count);
+    if (window.len + losses != PACKETS)
+        fail("another number of packets is reported than have not come", losses);
+    for (sequence = sequence_of(OLDEST_KEPT); sequence != after(last, 1); sequence = after(sequence, 1))
+        if (lost[distance(first, sequence)])
+            receive(sequence);
+    if (write_report(sequence_of(OLDEST_KEPT), last) != 0)
+        fail("a packet that was sent again is reported lost", words[0]);
 }
 
 int main(void)
@@ -188,14 +245,17 @@ int main(void)
     begin_at(sequence_of(0));
 
     for (i = 0; i < PACKETS; i++) {
-        uint32_t packet = i * 7 % PACKETS; /* each once, out of order */
-        if (packet % 100 != 70)            /* some are lost */
+        uint32_t packet = i * 7 % PACKETS;           /* each once, out of order */
+        if (packet % 100 != 70 && packet / 10 != 45) /* some are lost, one by one and ten in a row */
             receive(sequence_of(packet));
     }
     receive(sequence_of(0));                                   /* sent twice */
     receive(sequence_of(PACKET_WINDOW_CAPACITY(WINDOW_SIZE))); /* too early: packet 0 has its position */
     receive(sequence_of(70) | 0x80000000u);                    /* the top bit of its number is set: it is no sequence */
     report("received, of packets", PACKETS);
+
+    fill_gap();
+    report("sent again, from packet", OLDEST_KEPT);
 
     for (i = 0; deliver(); i++)
         ;

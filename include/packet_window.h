@@ -20,16 +20,23 @@
  *     blocks       uint64_t    PACKET_WINDOW_BLOCK_WORDS(window_size)         three words a block: nonempty, retired, live
  *     returned     uint32_t    PACKET_WINDOW_RETURN_PLACES, any window        a value handed back; for the calls that name it
  *
+ * The loss reports take two lists more, whose lengths go by the number of sequences of the range. Of words fewer places do if all words
+ * fit, and a list that is read may have any length:
+ *
+ *     words        uint32_t    PACKET_WINDOW_LOSS_WORDS(number)               a word of a loss list
+ *     lost         uint8_t     number                                         of a sequence, 1 if it is lost, 0 if not
+ *
  * A list is two arguments, its start and its length in elements. A list may be longer than named; a shorter one is refused. What lies
- * past the named lengths is never written. A start is not NULL and is aligned for its element. The lists of one call do not overlap
- * each other. The library cannot test these: it trusts the start and the length that it is given.
+ * past the named lengths is never written. A start is not NULL, that of an empty list neither, and is aligned for its element. The lists
+ * of one call do not overlap each other. The library cannot test these: it trusts the start and the length that it is given.
  *
  * The header and the first four lists are one window. From packet_window_new on, the calls alone write them, and each call gets them as
  * the last call left them. Between calls they may be moved, all together, since they hold no address. All memory stays the caller's.
  * Before it is used for anything else, take the values back: packet_window_clear, then packet_window_release_retired until retired_held
- * is 0. The return list serves one call; between calls it may be used for anything, and several windows may share it.
+ * is 0. The return list, words and lost serve one call; between calls they may be used for anything, and several windows may share them.
  *
- * Calls on different windows may run at the same time. Calls on one window may not, save those that write nothing.
+ * Calls on different windows may run at the same time. Calls on one window may not, save those that write nothing of it. Each call names
+ * below what it writes; calls that run at the same time do not share a list that one of them writes.
  *
  * HEADER. It goes in by value and comes back by value, in packet_window_step. Always keep the one that came back, whatever the answer:
  *
@@ -66,7 +73,8 @@
  * change that leaves a sound state, such as another value in a cell. On an unsound state every other call still ends, stays inside the
  * lists, writes nothing past their named lengths and nothing past `count` in the return list, and refuses 5, 6, 8, 9 and 10 as
  * always. Beyond that its answer (4 included), the header and the lists are free. It may be refused 7, with a count of values that it has
- * handed back.
+ * handed back. The loss reports alter no window all the same: packet_window_read_losses answers and refuses (11 and 12 too) as always,
+ * packet_window_write_losses writes just as many places of words as it answers, and none if it is refused.
  */
 #ifndef PACKET_WINDOW_H
 #define PACKET_WINDOW_H
@@ -80,8 +88,8 @@ extern "C" {
 
 /* ---- version */
 
-/* 10000 * major + 100 * minor + patch: 0.4.0. CHANGELOG.md says what each version changed. */
-#define PACKET_WINDOW_VERSION 400u
+/* 10000 * major + 100 * minor + patch: 0.5.0. CHANGELOG.md says what each version changed. */
+#define PACKET_WINDOW_VERSION 500u
 
 /*
  * The version of the library that is linked. Compare it with PACKET_WINDOW_VERSION once, before the first call: with another version the
@@ -128,6 +136,12 @@ uint32_t packet_window_version(void);
 /* The length of pages, and that of blocks. */
 #define PACKET_WINDOW_PAGE_WORDS(window_size) (3u * PACKET_WINDOW_PAGES(window_size))
 #define PACKET_WINDOW_BLOCK_WORDS(window_size) (3u * PACKET_WINDOW_BLOCKS(window_size))
+
+/*
+ * The most words that a loss list of `count` sequences has: packet_window_write_losses over so many is not refused 11 with a list of so
+ * many places. `count` is at most the window_size; PACKET_WINDOW_LOSS_WORDS(window_size) places serve for every range.
+ */
+#define PACKET_WINDOW_LOSS_WORDS(count) ((count) - (count) / 3u)
 
 /* ---- header */
 
@@ -186,7 +200,10 @@ enum packet_window_refusal {
     PACKET_WINDOW_REFUSED_DEMOTE_AT = 3,
     /* packet_window_insert: another sequence holds the position. */
     PACKET_WINDOW_REFUSED_OCCUPIED = 4,
-    /* packet_window_remove_range, packet_window_stranger: the range counts more than window_size sequences. */
+    /*
+     * packet_window_remove_range, packet_window_stranger, packet_window_write_losses, packet_window_read_losses: the range counts more
+     * than window_size sequences.
+     */
     PACKET_WINDOW_REFUSED_RANGE_COUNT = 5,
     /* A list is shorter than named, or the header is outside the limits of 1 to 3, as that of a refused packet_window_new is. */
     PACKET_WINDOW_REFUSED_SHORT_MEMORY = 6,
@@ -197,7 +214,11 @@ enum packet_window_refusal {
     /* packet_window_set_base: a base of 2147483648 or more. */
     PACKET_WINDOW_REFUSED_BASE = 9,
     /* Every call that takes a sequence, a first or a last: it is 2147483648 or more. */
-    PACKET_WINDOW_REFUSED_SEQUENCE = 10
+    PACKET_WINDOW_REFUSED_SEQUENCE = 10,
+    /* packet_window_write_losses: words has fewer places than there are words; packet_window_read_losses: lost, than sequences. */
+    PACKET_WINDOW_REFUSED_SHORT_LIST = 11,
+    /* packet_window_read_losses: a list that packet_window_write_losses could write for no set of losses of this range. */
+    PACKET_WINDOW_REFUSED_LOSS_LIST = 12
 };
 
 typedef struct packet_window_answer {
@@ -226,7 +247,7 @@ typedef struct packet_window_outcome {
 /*
  * An empty window over lists of any content. n: the cells of a sparse page, 1 to 63; a page with more values becomes dense. demote_at:
  * a dense page that a removal leaves with this many values or fewer becomes sparse again; at most n, and 0 for never. Neither changes
- * what insert, get, exchange, remove, set_base, take_front, successor_after, first_from and remove_range answer.
+ * what insert, get, exchange, remove, set_base, take_front, successor_after, first_from, remove_range, write_losses and read_losses answer.
  * Writes pages and blocks. What an earlier window in the same lists held is forgotten and not handed back.
  * Answers: PACKET_WINDOW_DONE, with the new header. Refused: 1, 2, 3, 6; the header that comes back is then all zero, and every call
  * with it is refused 6. The lists stay as they were, and an earlier window in them goes on with its own header.
@@ -332,7 +353,7 @@ packet_window_step packet_window_first_from(
 
 /*
  * One step over the live pairs, in the order of pages, then of cells: the next from a cell on. Begin with cell 0 and go on with the
- * cell that the answer carries, with no call between that writes.
+ * cell that the answer carries, with no call between that writes anything of the window.
  * A step enters the block of its cell and each block after it up to that of the pair, or to the last; on entering a block it reads the
  * block's retired word, once, and not at each of its 64 pages. fourth is the number of these reads: 1 to 16, and 0 from a cell of the
  * capacity or more.
@@ -401,6 +422,46 @@ packet_window_step packet_window_clear_bounded(
     uint64_t *pages, size_t pages_length, uint64_t *blocks, size_t blocks_length,
     uint32_t *returned, size_t returned_length,
     uint32_t number);
+
+/*
+ * ---- loss reports
+ *
+ * A loss list names the sequences of a range first to last that are lost, in circular order from first, as the loss report (NAK) of SRT
+ * carries them. A word is a sequence; a run of three or more lost in a row is two words, its first sequence with the top bit set, and its
+ * last. With nothing live, 5 to 7 is 0x80000005 7, 5 to 6 is 5 6, and 2147483647 to 1 is 0xffffffff 1. A run goes on from 2147483647
+ * to 0, and ends with the range. Words are in host order; a report on the wire has them in network order, so a sender swaps them (htonl)
+ * and a receiver swaps them back (ntohl) before it reads them. A set of losses has just one list.
+ *
+ * The lists of these two calls are no return lists: nothing in them is handed back, and count is 0.
+ */
+
+/*
+ * The loss list of the sequences of first to last that are not live (packet_window_get does not find them), from the first place of
+ * `words` on. PACKET_WINDOW_LOSS_WORDS(sequences of the range) places are always enough; fewer may be. Places past the words stay as they
+ * were.
+ * Writes words. The window is not altered, sound or not.
+ * Answers: PACKET_WINDOW_FOUND with the number of words; 0 if nothing is lost. Refused: 6, 10, 5, 11; words stays as it was.
+ */
+packet_window_step packet_window_write_losses(
+    packet_window_header w,
+    const uint32_t *sequences, size_t sequences_length, const uint32_t *values, size_t values_length,
+    const uint64_t *pages, size_t pages_length, const uint64_t *blocks, size_t blocks_length,
+    uint32_t *words, size_t words_length,
+    uint32_t first, uint32_t last);
+
+/*
+ * What the whole list `words` says of the sequences of first to last: a byte for each, in order, 1 if it is lost and 0 if not, from the
+ * first place of `lost` on. An empty list says that none is. Places past the bytes stay as they were. Nothing of the window is looked at
+ * but the header's limits and the lengths of the lists.
+ * Writes lost. The window is not altered, sound or not.
+ * Answers: PACKET_WINDOW_FOUND with how many are lost. Refused: 6, 10, 5, 11, 12; lost stays as it was.
+ */
+packet_window_step packet_window_read_losses(
+    packet_window_header w,
+    const uint32_t *sequences, size_t sequences_length, const uint32_t *values, size_t values_length,
+    const uint64_t *pages, size_t pages_length, const uint64_t *blocks, size_t blocks_length,
+    const uint32_t *words, size_t words_length, uint8_t *lost, size_t lost_length,
+    uint32_t first, uint32_t last);
 
 /* ---- audits */
 

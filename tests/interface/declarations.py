@@ -18,7 +18,7 @@ MEMORY = ROOT / "bindings/rust/src/memory.rs"
 LIBRARY = ROOT / "target/libpacket_window.a"
 CARGO = ROOT / "bindings/rust/Cargo.toml"
 CHANGES = ROOT / "CHANGELOG.md"
-EXPORTS = sorted(path for crate in ("c_calls", "c_audit", "c_host") for path in (ROOT / "crates" / crate / "src").glob("*.rt"))
+EXPORTS = sorted(path for crate in ("c_calls", "c_audit", "c_host", "c_losses") for path in (ROOT / "crates" / crate / "src").glob("*.rt"))
 WINDOW = ROOT / "crates/window/src/lib.rt"
 REFUSALS = ROOT / "crates/window/src/refusals.rt"
 VERSION = ROOT / "crates/c_calls/src/version.rt"
@@ -37,6 +37,7 @@ RAW_TYPES = {
     "u32": "u32",
     "u64": "u64",
     "usize": "size",
+    "*mut u8": "u8 *",
     "*mut u32": "u32 *",
     "*mut u64": "u64 *",
     "*const u32": "const u32 *",
@@ -45,7 +46,7 @@ RAW_TYPES = {
     "NumberedAnswer": "answer",
     "NumberedStep": "step",
 }
-C_TYPES = {"uint32_t": "u32", "uint64_t": "u64", "size_t": "size"}
+C_TYPES = {"uint8_t": "u8", "uint32_t": "u32", "uint64_t": "u64", "size_t": "size"}
 
 
 def without_comments(text):
@@ -72,7 +73,7 @@ def named(parameter):
 
 def source_parameter(parameter):
     name, kind = named(parameter)
-    listed = re.fullmatch(r"&(mut )?\[(u32|u64)\]", kind)
+    listed = re.fullmatch(r"&(mut )?\[(u8|u32|u64)\]", kind)
     if not listed:
         return [(name, SOURCE_TYPES[kind])]
     const = "" if listed[1] else "const "

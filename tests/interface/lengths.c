@@ -1,12 +1,13 @@
 /*
  * The version of packet_window.h is the library's. Its macros, for every window_size, are document 01's lengths: packet_window_new takes
- * lists of these lengths and refuses one that is shorter. C99 and C++11.
+ * lists of these lengths and refuses one that is shorter. PACKET_WINDOW_LOSS_WORDS is the number of words that packet_window_write_losses
+ * writes where every third sequence is live, and a list with a place fewer is refused. C99 and C++11.
  */
 #include "packet_window.h"
 
 #include <stdio.h>
 
-#if PACKET_WINDOW_CAPACITY(1000) != 1024 || PACKET_WINDOW_BLOCK_WORDS(4097) != 6
+#if PACKET_WINDOW_CAPACITY(1000) != 1024 || PACKET_WINDOW_BLOCK_WORDS(4097) != 6 || PACKET_WINDOW_LOSS_WORDS(1000) != 667
 #error "the macros are no constant expressions for the preprocessor"
 #endif
 
@@ -16,6 +17,8 @@ static uint32_t sequences[PACKET_WINDOW_CAPACITY(LARGEST)];
 static uint32_t values[PACKET_WINDOW_CAPACITY(LARGEST)];
 static uint64_t pages[PACKET_WINDOW_PAGE_WORDS(LARGEST)];
 static uint64_t blocks[PACKET_WINDOW_BLOCK_WORDS(LARGEST)];
+static uint32_t returned[PACKET_WINDOW_RETURN_PLACES];
+static uint32_t words[PACKET_WINDOW_LOSS_WORDS(LARGEST)];
 
 enum { SEQUENCES, VALUES, PAGES, BLOCKS, LISTS };
 
@@ -32,11 +35,15 @@ static void named_lengths(uint32_t window_size, size_t lengths[LISTS])
     lengths[BLOCKS] = 3 * (page_count / 64 + (page_count % 64 != 0));
 }
 
-static packet_window_answer new_with(uint32_t window_size, const size_t lengths[LISTS])
+static packet_window_step new_with(uint32_t window_size, const size_t lengths[LISTS])
 {
     return packet_window_new(sequences, lengths[SEQUENCES], values, lengths[VALUES], pages, lengths[PAGES], blocks, lengths[BLOCKS],
-                             window_size, 8, 4)
-        .answer;
+                             window_size, 8, 4);
+}
+
+static int is_refused(packet_window_answer answer, uint32_t refusal)
+{
+    return answer.code == PACKET_WINDOW_REFUSED && answer.first == refusal;
 }
 
 static int macros_hold(uint32_t window_size, const size_t lengths[LISTS])
@@ -50,27 +57,64 @@ static int refuses_shorter(uint32_t window_size, const size_t lengths[LISTS])
     int list, refused = 0;
     for (list = 0; list < LISTS; list++) {
         size_t shorter[LISTS] = {lengths[0], lengths[1], lengths[2], lengths[3]};
-        packet_window_answer answer;
         shorter[list]--;
-        answer = new_with(window_size, shorter);
-        refused += answer.code == PACKET_WINDOW_REFUSED && answer.first == PACKET_WINDOW_REFUSED_SHORT_MEMORY;
+        refused += is_refused(new_with(window_size, shorter).answer, PACKET_WINDOW_REFUSED_SHORT_MEMORY);
     }
     return refused == LISTS;
 }
 
+/* A new window of the largest size with the sequences 2, 5, 8 and so on. */
+static packet_window_header every_third_live(const size_t lengths[LISTS])
+{
+    packet_window_header header = new_with(LARGEST, lengths).window;
+    uint32_t sequence;
+    for (sequence = 2; sequence < LARGEST; sequence += 3)
+        header = packet_window_insert(header, sequences, lengths[SEQUENCES], values, lengths[VALUES], pages, lengths[PAGES], blocks,
+                                      lengths[BLOCKS], returned, PACKET_WINDOW_RETURN_PLACES, sequence, 0)
+                     .window;
+    return header;
+}
+
+static packet_window_answer losses_of(packet_window_header header, const size_t lengths[LISTS], uint32_t count, size_t places)
+{
+    return packet_window_write_losses(header, sequences, lengths[SEQUENCES], values, lengths[VALUES], pages, lengths[PAGES], blocks,
+                                      lengths[BLOCKS], words, places, 0, count - 1)
+        .answer;
+}
+
+/* Of the sequences 0 to count - 1 two in three are lost, and no three in a row: each is a word. */
+static int loss_words_hold(packet_window_header header, const size_t lengths[LISTS], uint32_t count)
+{
+    packet_window_answer answer = losses_of(header, lengths, count, PACKET_WINDOW_LOSS_WORDS(count));
+    uint32_t sequence, lost = 0;
+    for (sequence = 0; sequence < count; sequence++)
+        lost += sequence % 3 != 2;
+    return answer.code == PACKET_WINDOW_FOUND && answer.first == lost && PACKET_WINDOW_LOSS_WORDS(count) == lost &&
+           is_refused(losses_of(header, lengths, count, lost - 1), PACKET_WINDOW_REFUSED_SHORT_LIST);
+}
+
 int main(void)
 {
-    uint32_t window_size;
+    uint32_t window_size, count;
+    size_t lengths[LISTS];
+    packet_window_header header;
     if (packet_window_version() != PACKET_WINDOW_VERSION) {
         printf("the library's version is %u, the header's %u\n", (unsigned)packet_window_version(), (unsigned)PACKET_WINDOW_VERSION);
         return 1;
     }
     for (window_size = 1; window_size <= LARGEST; window_size++) {
-        size_t lengths[LISTS];
         named_lengths(window_size, lengths);
-        if (!macros_hold(window_size, lengths) || new_with(window_size, lengths).code != PACKET_WINDOW_DONE ||
+        if (!macros_hold(window_size, lengths) || new_with(window_size, lengths).answer.code != PACKET_WINDOW_DONE ||
             !refuses_shorter(window_size, lengths)) {
             printf("the lengths for window_size %u are wrong\n", (unsigned)window_size);
+            return 1;
+        }
+    }
+    named_lengths(LARGEST, lengths);
+    header = every_third_live(lengths);
+    for (count = 1; count <= LARGEST; count += count < 1000 ? 1 : 331) {
+        if (!loss_words_hold(header, lengths, count)) {
+            printf("the words for %u sequences are wrong\n", (unsigned)count);
             return 1;
         }
     }

@@ -15,7 +15,7 @@ pub enum Refusal {
     DemoteAt = 3,
     /// `insert`: another sequence holds the position.
     Occupied = 4,
-    /// `remove_range`, `stranger`: the range counts more than window_size sequences.
+    /// `remove_range`, `stranger`, `write_losses`, `read_losses`: the range counts more than window_size sequences.
     RangeCount = 5,
     /// A list is shorter than it must be.
     ShortMemory = 6,
@@ -27,10 +27,14 @@ pub enum Refusal {
     Base = 9,
     /// Every call that takes a sequence, a first or a last: it is 2147483648 or more.
     Sequence = 10,
+    /// `write_losses`: the list has fewer places than there are words; `read_losses`: than the range has sequences.
+    ShortList = 11,
+    /// `read_losses`: a list that `write_losses` could write for no set of losses of this range.
+    LossList = 12,
 }
 
 impl Refusal {
-    const ALL: [Self; 10] = [
+    const ALL: [Self; 12] = [
         Self::WindowSize,
         Self::SparseCells,
         Self::DemoteAt,
@@ -41,6 +45,8 @@ impl Refusal {
         Self::Budget,
         Self::Base,
         Self::Sequence,
+        Self::ShortList,
+        Self::LossList,
     ];
 
     /// The number that the papers and the C interface give it.
@@ -66,6 +72,8 @@ impl fmt::Display for Refusal {
             Self::Budget => "the number is above 256",
             Self::Base => "a base of 2147483648 or more",
             Self::Sequence => "a sequence, first or last of 2147483648 or more",
+            Self::ShortList => "the list is shorter than what is to be written",
+            Self::LossList => "the loss list of no set of losses of this range",
         };
         write!(f, "refused {}: {why}", self.number())
     }

@@ -36,6 +36,27 @@
 //! # Ok::<(), packet_window::Refusal>(())
 //! ```
 //!
+//! # Loss reports
+//!
+//! [`Window::write_losses`] tells which sequences of a range are not live, as the loss report (NAK) of SRT does: a run of three or more in
+//! a row is two words, its first sequence with the top bit set and its last; a shorter run is single words. Words are in host order.
+//! [`Window::read_losses`] takes such a list apart, and no other.
+//!
+//! ```
+//! use packet_window::{loss_words, OwnedMemory, Window};
+//!
+//! let mut memory = OwnedMemory::new(512);
+//! let mut window = Window::new(memory.lend(), 512, 8, 4)?;
+//! assert!(window.insert(104, 70).answer.is_ok());
+//! let mut places = [0; loss_words(512)];
+//! let report = window.write_losses(101, 106, &mut places)?;
+//! assert_eq!(report, [0x8000_0065, 103, 105, 106]); // 101 to 103, 105 and 106
+//! let mut lost = [0; 6];
+//! assert_eq!(window.read_losses(101, 106, report, &mut lost), Ok(5));
+//! assert_eq!(lost, [1, 1, 1, 0, 1, 1]);
+//! # Ok::<(), packet_window::Refusal>(())
+//! ```
+//!
 //! # Memory
 //!
 //! With fixed memory, and no allocator (without the feature `alloc` the crate needs none):
@@ -85,6 +106,8 @@ mod window;
 pub use answers::{Inserted, NextPair, Outcome, Refusal, Released, Step};
 #[cfg(feature = "alloc")]
 pub use memory::OwnedMemory;
-pub use memory::{block_words, capacity, page_words, Memory, MAX_RETIRED_RELEASED_PER_VISIT, PAGE_SLOTS, RETURN_PLACES, VERSION};
+pub use memory::{
+    block_words, capacity, loss_words, page_words, Memory, MAX_RETIRED_RELEASED_PER_VISIT, PAGE_SLOTS, RETURN_PLACES, VERSION,
+};
 pub use raw::Header;
 pub use window::{library_version, Iter, Window};

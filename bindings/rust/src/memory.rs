@@ -4,7 +4,7 @@
 use alloc::{vec, vec::Vec};
 
 /// The version of the library that this wrapper is written for, as 10000 × major + 100 × minor + patch.
-pub const VERSION: u32 = 400;
+pub const VERSION: u32 = 500;
 
 /// Positions of a page.
 pub const PAGE_SLOTS: usize = 64;
@@ -38,6 +38,11 @@ pub const fn page_words(window_size: u32) -> usize {
 /// The least length of `blocks`: three words a block of 64 pages.
 pub const fn block_words(window_size: u32) -> usize {
     3 * (capacity(window_size) / PAGE_SLOTS).div_ceil(64)
+}
+
+/// The most words that a loss list of `count` sequences has: so many places are enough for `write_losses`.
+pub const fn loss_words(count: u32) -> usize {
+    (count - count / 3) as usize
 }
 
 /// The lists that a window is lent. What they hold does not matter to `new`; afterwards the window alone writes them. A list may be

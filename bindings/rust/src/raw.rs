@@ -169,6 +169,22 @@ extern "C" {
         first: u32, last: u32,
     ) -> NumberedStep;
 
+    pub fn packet_window_write_losses(
+        w: Header,
+        sequences: *const u32, sequences_length: usize, values: *const u32, values_length: usize,
+        pages: *const u64, pages_length: usize, blocks: *const u64, blocks_length: usize,
+        words: *mut u32, words_length: usize,
+        first: u32, last: u32,
+    ) -> NumberedStep;
+
+    pub fn packet_window_read_losses(
+        w: Header,
+        sequences: *const u32, sequences_length: usize, values: *const u32, values_length: usize,
+        pages: *const u64, pages_length: usize, blocks: *const u64, blocks_length: usize,
+        words: *const u32, words_length: usize, lost: *mut u8, lost_length: usize,
+        first: u32, last: u32,
+    ) -> NumberedStep;
+
     pub fn packet_window_check(
         w: Header,
         sequences: *const u32, sequences_length: usize, values: *const u32, values_length: usize,

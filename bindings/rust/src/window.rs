@@ -15,11 +15,11 @@ pub struct Window<'m> {
     memory: Memory<'m>,
 }
 
-/// A call that writes nothing: its answer.
+/// A call that writes nothing of the window: its answer.
 macro_rules! reading {
     ($window:expr, $call:ident($($argument:expr),*)) => {{
         let Window { header, memory: Memory { sequences: s, values: v, pages: p, blocks: b, .. } } = $window;
-        // SAFETY: each start and length is a slice's, which is borrowed here and which the call does not write.
+        // SAFETY: each start and length is a slice's, which is borrowed here; the call writes none of the window's.
         let step: NumberedStep = unsafe {
             raw::$call(*header, s.as_ptr(), s.len(), v.as_ptr(), v.len(), p.as_ptr(), p.len(), b.as_ptr(), b.len() $(, $argument)*)
         };
@@ -27,7 +27,7 @@ macro_rules! reading {
     }};
 }
 
-/// A call that writes: the header that it gives back is kept.
+/// A call that writes the window: the header that it gives back is kept.
 macro_rules! writing {
     ($window:expr, $call:ident($($argument:expr),*)) => {{
         let Window { header, memory: Memory { sequences: s, values: v, pages: p, blocks: b, .. } } = $window;
@@ -43,7 +43,7 @@ macro_rules! writing {
     }};
 }
 
-/// A call that writes and takes the return list.
+/// A call that writes the window and takes the return list.
 macro_rules! returning {
     ($window:expr, $call:ident($($argument:expr),*)) => {{
         let (start, places) = ($window.memory.returned.as_mut_ptr(), $window.memory.returned.len());
@@ -65,7 +65,8 @@ fn same_version() {
 impl<'m> Window<'m> {
     /// An empty window. `n`: the cells of a sparse page, 1 to 63; a page with more values becomes dense. `demote_at`: a dense page that
     /// a removal leaves with this many values or fewer becomes sparse again; at most `n`, and 0 for never. Neither changes what `insert`,
-    /// `get`, `exchange`, `remove`, `set_base`, `take_front`, `successor_after`, `first_from` and `remove_range` answer.
+    /// `get`, `exchange`, `remove`, `set_base`, `take_front`, `successor_after`, `first_from`, `remove_range`, `write_losses` and
+    /// `read_losses` answer.
     ///
     /// Refused, in this order: `WindowSize`, `SparseCells`, `DemoteAt`, `ShortMemory`. The memory then stays as it was.
     ///
@@ -221,6 +222,27 @@ impl<'m> Window<'m> {
     /// Refused, in this order: `Sequence`, `RangeCount`.
     pub fn stranger(&self, first: u32, last: u32) -> Result<Option<(u32, u32)>, Refusal> {
         answers::pair(reading!(self, packet_window_stranger(first, last)))
+    }
+
+    /// The loss list of the sequences of first to last that are not live, as `get` tells: the words written, from the first place of
+    /// `words` on. [`loss_words`] of the range's sequences are always enough places; fewer may be. What lies past the words stays.
+    ///
+    /// Refused, in this order: `Sequence`, `RangeCount`, `ShortList`. Then `words` stays as it was.
+    ///
+    /// [`loss_words`]: crate::loss_words
+    pub fn write_losses<'l>(&self, first: u32, last: u32, words: &'l mut [u32]) -> Result<&'l [u32], Refusal> {
+        let (start, places) = (words.as_mut_ptr(), words.len());
+        let count = answers::number(reading!(self, packet_window_write_losses(start, places, first, last)))?;
+        Ok(&words[..count as usize])
+    }
+
+    /// What the whole list `words` says of the sequences of first to last: into `lost`, a byte for each, 1 if it is lost and 0 if not.
+    /// Answers how many are lost; by an empty list none is. What lies past the bytes stays. Nothing of the window but its size counts.
+    ///
+    /// Refused, in this order: `Sequence`, `RangeCount`, `ShortList`, `LossList`. Then `lost` stays as it was.
+    pub fn read_losses(&self, first: u32, last: u32, words: &[u32], lost: &mut [u8]) -> Result<u32, Refusal> {
+        let (start, places) = (lost.as_mut_ptr(), lost.len());
+        answers::number(reading!(self, packet_window_read_losses(words.as_ptr(), words.len(), start, places, first, last)))
     }
 
     /// Whether the state is sound. It looks at every page.

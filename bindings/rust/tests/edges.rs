@@ -1,5 +1,5 @@
-//! The starred edge cases of document 01, those of the base and its point, and what the interface itself adds: lengths, short lists, the
-//! iterator.
+//! The starred edge cases of document 01, those of the base and its point and of loss reports, and what the interface itself adds: lengths,
+//! short lists, the iterator.
 
 use packet_window::*;
 
@@ -99,6 +99,8 @@ fn a_sequence_has_31_bits() {
             let removed = w.remove_range(first, last);
             assert_eq!((removed.answer, removed.returned.len()), (Err(Refusal::Sequence), 0), "{first} {last}");
             assert_eq!(w.stranger(first, last), Err(Refusal::Sequence), "{first} {last}");
+            assert_eq!(w.write_losses(first, last, &mut []), Err(Refusal::Sequence), "{first} {last}");
+            assert_eq!(w.read_losses(first, last, &[7], &mut []), Err(Refusal::Sequence), "{first} {last}");
         }
         assert_eq!(w.set_base(wide), Err(Refusal::Base));
     }
@@ -284,6 +286,102 @@ fn strangers() {
     assert_eq!((w.stranger(2147483647, 0), w.stranger(63, 63)), (Ok(None), Ok(Some((2147483647, 52)))));
 }
 
+/// The loss list of a range, which places past it do not show, and which reads back as the losses that `get` tells.
+fn losses(w: &Window, first: u32, last: u32) -> Vec<u32> {
+    let count = (last.wrapping_sub(first) & 0x7fff_ffff) + 1;
+    let mut places = vec![7; loss_words(count) + 1];
+    let words = w.write_losses(first, last, &mut places).expect("places enough").to_vec();
+    assert!(words.len() <= loss_words(count) && places[words.len()..].iter().all(|&place| place == 7), "{first} {last}");
+    let due: Vec<u8> = (0..count).map(|steps| w.get((first + steps) & 0x7fff_ffff) == Ok(None)).map(u8::from).collect();
+    let mut lost = vec![7; count as usize + 1];
+    assert_eq!(w.read_losses(first, last, &words, &mut lost), Ok(due.iter().map(|&byte| u32::from(byte)).sum()), "{first} {last}");
+    assert_eq!((&lost[..count as usize], lost[count as usize]), (&due[..], 7), "{first} {last}");
+    words
+}
+
+#[test]
+fn loss_lists() {
+    let mut memory = OwnedMemory::new(64);
+    let mut w = window(&mut memory, 64);
+    assert_eq!(losses(&w, 5, 5), [5]);
+    assert_eq!(losses(&w, 5, 6), [5, 6]);
+    assert_eq!(losses(&w, 5, 7), [0x8000_0005, 7]);
+    assert_eq!(losses(&w, 2147483647, 1), [0xffff_ffff, 1]);
+    assert_eq!(losses(&w, 2147483646, 2147483647), [2147483646, 2147483647]);
+    for sequence in [3, 70, 9, 2147483647] {
+        enter(&mut w, sequence, sequence);
+    }
+    assert_eq!(losses(&w, 3, 3), []);
+    assert_eq!(losses(&w, 2147483647, 9), [0x8000_0000, 2, 0x8000_0004, 8]); // 70 stands at the position of 6
+    assert_eq!(losses(&w, 2147483640, 39), [0xffff_fff8, 2147483646, 0x8000_0000, 2, 0x8000_0004, 8, 0x8000_000a, 39]);
+    assert_eq!(w.clear_bounded(0).answer, Ok(0));
+    assert_eq!((losses(&w, 3, 4), w.retired_held()), (vec![3, 4], 4));
+}
+
+/// Every third sequence live: the list is as long as any.
+#[test]
+fn the_longest_loss_lists() {
+    let mut memory = OwnedMemory::new(4096);
+    let mut w = window(&mut memory, 4096);
+    for sequence in (2..4096).step_by(3) {
+        enter(&mut w, sequence, sequence);
+    }
+    for count in (1..100).chain([4094, 4095, 4096]) {
+        assert_eq!(losses(&w, 0, count - 1).len(), loss_words(count));
+    }
+}
+
+#[test]
+fn loss_lists_are_refused_in_order_and_written_nowhere() {
+    let mut memory = OwnedMemory::new(64);
+    let w = window(&mut memory, 64);
+    let (mut words, mut lost) = ([7; 2], [7; 4]);
+    assert_eq!(w.write_losses(2147483648, 0, &mut words[..0]), Err(Refusal::Sequence));
+    assert_eq!(w.write_losses(0, 64, &mut words[..0]), Err(Refusal::RangeCount));
+    assert_eq!(w.write_losses(0, 63, &mut words[..1]), Err(Refusal::ShortList));
+    assert_eq!(w.read_losses(0, 2147483648, &[9], &mut lost[..0]), Err(Refusal::Sequence));
+    assert_eq!(w.read_losses(0, 64, &[9], &mut lost[..0]), Err(Refusal::RangeCount));
+    assert_eq!(w.read_losses(0, 4, &[9], &mut lost), Err(Refusal::ShortList));
+    assert_eq!(w.read_losses(0, 3, &[9], &mut lost), Err(Refusal::LossList));
+    assert_eq!((words, lost), ([7; 2], [7; 4]));
+    assert_eq!(w.write_losses(0, 63, &mut words), Ok([0x8000_0000, 63].as_slice()));
+    assert_eq!((w.read_losses(0, 3, &[2, 3], &mut lost), lost), (Ok(2), [0, 0, 1, 1]));
+    assert_eq!((w.read_losses(0, 2, &[], &mut lost), lost), (Ok(0), [0, 0, 0, 1]));
+}
+
+#[test]
+fn lists_of_no_set_of_losses() {
+    const RUN: u32 = 0x8000_0000;
+    let mut memory = OwnedMemory::new(64);
+    let w = window(&mut memory, 64);
+    let wrong: [&[u32]; 16] = [
+        &[2, 3, 4],              // three in a row
+        &[RUN | 2, 2],           // a run of one
+        &[RUN | 2, 3],           // a run of two
+        &[RUN | 2, 4, 5],        // runs that touch
+        &[1, RUN | 2, 4],
+        &[RUN | 0, 2, RUN | 3, 5],
+        &[RUN | 2, 1],           // from later to earlier
+        &[5, 3],
+        &[3, 3],
+        &[RUN | 2, 4, RUN | 2, 4],
+        &[2147483647],           // outside of the range
+        &[10],
+        &[RUN | 7, 10],
+        &[RUN | 2],              // a run without its last
+        &[3, RUN | 5],
+        &[RUN | 2, RUN | 4],     // a last with its top bit
+    ];
+    let mut lost = [7; 10];
+    for words in wrong {
+        assert_eq!(w.read_losses(0, 9, words, &mut lost), Err(Refusal::LossList), "{words:?}");
+    }
+    assert_eq!(lost, [7; 10]);
+    for (words, count) in [(&[2, 3][..], 2), (&[RUN | 2, 4], 3), (&[RUN, 9], 10), (&[0, 2, 3, RUN | 5, 9], 8), (&[9], 1)] {
+        assert_eq!(w.read_losses(0, 9, words, &mut lost), Ok(count), "{words:?}");
+    }
+}
+
 /// The parts of a window of 100 with three live values.
 fn parts(memory: &mut OwnedMemory) -> (Header, Memory<'_>) {
     let mut w = window(memory, 100);
@@ -348,6 +446,9 @@ fn refusals_have_the_papers_numbers() {
         Refusal::Unsound,
         Refusal::Budget,
         Refusal::Base,
+        Refusal::Sequence,
+        Refusal::ShortList,
+        Refusal::LossList,
     ];
-    assert_eq!(refusals.map(Refusal::number), [1, 2, 3, 4, 5, 6, 7, 8, 9]);
+    assert_eq!(refusals.map(Refusal::number), [1, 2, 3, 4, 5, 6, 7, 8, 9, 10, 11, 12]);
 }
