@@ -1,7 +1,7 @@
 #!/usr/bin/env python3
 """README's list of what one has to believe is whole, and no file of a specs/ holds a proof.
 
-One has to believe the files of definitions that the statements of demand 3 and of request S-14, what the line program prints and the
+One has to believe the files of definitions that the statements of demand 3 and of requests S-4 and S-14, what the line program prints and the
 contracts of the exported functions reach by their imports: README names each of them under 'What one has to believe', and no other.
 """
 import re
@@ -12,10 +12,10 @@ import exported
 
 ROOT = Path(__file__).resolve().parent.parent
 HEADING = '## What one has to believe'
-# demand 3; request S-14; what the line program prints for its input, and the contracts of its functions
-STATEMENTS = ['crates/model/specs/Heads.antt', 'crates/laws_visits/specs/TwoVisits.antt',
+# demand 3; request S-14; what is proved of loss lists; what the line program prints for its input, and the contracts of its functions
+STATEMENTS = ['crates/model/specs/Heads.antt', 'crates/laws_visits/specs/TwoVisits.antt', 'crates/model/specs/Reports.antt',
               'crates/line_program/specs/Program.antt', 'crates/line_program/specs/Contracts.antt']
-USE = re.compile(r'^(?:ghost )?use Rattle·(?P<crate>\w+)(?:·specs\.specs|\.specs|·specs)\.(?P<module>[\w.]+)', re.MULTILINE)
+USE = re.compile(r'^(?:ghost |pub |unfoldable pub )?use Rattle·(?P<crate>\w+)(?:·specs\.specs|\.specs|·specs)\.(?P<module>[\w.]+)', re.MULTILINE)
 
 
 def imported(text):

@@ -4,7 +4,7 @@
 Exported are the calls of document 01 by value, their host forms, the functions in C's calling convention, and the line parser, what
 makes a line's call, what tells a line's fault, the printer, and the line program on slices. Of each this is asked: no `requires`, and
 as `ensures` nothing but the contract record of its kind, at the call of its own name with its own parameters in their order (`new`,
-which is no call, has a record of its own, and the version a number). The line program asks for what it keeps between lines: its
+which is no call, and the loss reports, which write lists of their own, have records of their own, and the version a number). The line program asks for what it keeps between lines: its
 `requires` and `ensures` stand here word for word. The records themselves are asked to be the contract of every call at the whole step
 and the whole soundness. Every call of `Call` and `Query` is exported, and every exported function is of a call there, so that demand 3
 speaks of it. The order of refusals is computed for every call.
@@ -33,6 +33,13 @@ KINDS = {
 }
 # what is no call: crate, function, its whole contract
 OTHERS = {('c_calls', 'packet_window_version'): 'r ≡ version'}
+# the loss reports, which have lists of their own: of each function the record, its file in the crate's specs/, the lists after the four
+REPORTS = {
+    ('call_losses', 'write_losses'): ('WritesLossesBy', 'Reports', ['words']),
+    ('call_losses', 'read_losses'): ('ReadsLossesBy', 'Reports', ['words', 'lost']),
+    ('c_losses', 'packet_window_write_losses'): ('NumbersWriteLossesBy', 'Contracts', ['words']),
+    ('c_losses', 'packet_window_read_losses'): ('NumbersReadLossesBy', 'Contracts', ['words', 'lost']),
+}
 # new: crate, function, record, where it is defined
 NEW = [('window', 'new', 'NewBy', 'window', 'New'), ('c_calls', 'packet_window_new', 'CreatesBy', 'c_calls', 'Numbers')]
 TEXT = {'line_text': ['parse'], 'line_calls': ['call', 'live_pairs'], 'line_faults': ['fault_of'], 'line_output': ['put_line', 'put_list', 'put_unknown'],
@@ -72,6 +79,18 @@ DEFINED = {
     'crates/c_calls/specs/Numbers.antt': [
         '  pub numbers : r .answer ≡ numbersOf answer',
         '  pub meets : Meets c u l (record { answer = answer; count = r .count; state = stateOf (r .window) m; list = l′ })'],
+    'crates/model/specs/Reports.antt': [
+        '  pub meets : Meets (ask (write-losses first last (length l))) u [] r',
+        '  pub meets : Meets (ask (read-losses first last words (length l))) u [] r',
+        '  pub losses : (n : ℕ) → r .answer ≡ found n → SoundWithPoint (windowOf u) → take n l′ ≡ reportOf u first last'],
+    'crates/call_losses/specs/Reports.antt': [
+        '    WritesLosses first last (stateOf w (foundIn ss vs pages blocks)) (now (words .entry)) (leftOf r (leftIn ss vs pages blocks) []) (now (words .exit))',
+        '    ReadsLosses first last (now (words .entry)) (stateOf w (foundIn ss vs pages blocks)) (now (lost .entry)) (leftOf r (leftIn ss vs pages blocks) []) (now (lost .exit))'],
+    'crates/c_losses/specs/Contracts.antt': [
+        '  pub numbers : r .answer ≡ numbersOf answer',
+        '  pub left : Asked (record { answer = answer; count = r .count; state = stateOf (r .window) m; list = [] })',
+        '    InNumbers (λ (left : Left). WritesLosses first last (stateOf w (foundIn ss vs pages blocks)) (now (words .entry)) left (now (words .exit))) r (leftIn ss vs pages blocks)',
+        '    InNumbers (λ (left : Left). ReadsLosses first last (now (words .entry)) (stateOf w (foundIn ss vs pages blocks)) (now (lost .entry)) left (now (lost .exit))) r (leftIn ss vs pages blocks)'],
     'crates/c_host/specs/Outcomes.antt': [
         '  pub numbers : r .answer ≡ numbersOf answer',
         '  pub meets : Meets c u l (record { answer = answer; count = r .count; state = stateOf w m; list = l′ })'],
@@ -163,6 +182,15 @@ def problems(texts):
                 continue
             said = contract(function, name, calls[name], kind, texts[function.path])
             wrong += [function.wrong(said)] if said else []
+    for (crate, name), (record, module, lists) in REPORTS.items():
+        for function in functions(texts, crate):
+            if function.name == name and 'pub' in function.head:
+                seen[crate, name] = function
+                taken = ['w'] + LISTS + lists
+                wanted = f"{record} first last {' '.join(taken)} r"
+                if function.parameters != taken + ['first', 'last'] or function.contracts != [wanted] \
+                        or imports(texts[function.path], specs(crate, True, module)).get(record) != record:
+                    wrong.append(function.wrong(f'its contract is {function.contracts}, not {wanted!r}'))
     for crate, name, record, home, module in NEW:
         for function in functions(texts, crate):
             if function.name == name and 'pub' in function.head:
@@ -182,7 +210,7 @@ def problems(texts):
                     wrong.append(function.wrong('it has no ensures'))
     wrong += [function.wrong('it has a requires') for place, function in seen.items() if 'requires {' in function.head and place not in KEEPS]
     names = {name for crate, name in seen}
-    wrong += [f'{name} is not exported by value' for name in calls if name not in {n for c, n in seen if KINDS.get(c) == BY_VALUE}]
+    wrong += [f'{name} is not exported by value' for name in calls if name not in {n for c, n in seen if KINDS.get(c) == BY_VALUE or c == 'call_losses'}]
     wrong += [f'packet_window_{name} was not found' for name in [*calls, 'new'] if f'packet_window_{name}' not in names]
     wrong += [f'{name} was not found' for names_ in TEXT.values() for name in names_ if name not in names]
     for path, lines in DEFINED.items():
@@ -221,6 +249,10 @@ WRONG = [
     ('crates/model/specs/Contract.antt', 'Meets = MeetsAs windowStep SoundWithPoint', 'Meets = MeetsAs windowDoes SoundWithPoint'),
     ('crates/model/specs/Contract.antt', 'Meets = MeetsAs windowStep SoundWithPoint', 'Meets = MeetsAs windowStep Sound'),
     ('crates/model/specs/Contract.antt', 'Meets = MeetsAs windowStep SoundWithPoint', 'Meets = MeetsAs windowStep (λ w. ⊥)'),
+    # the loss reports: another range, the other call, a list that is written where it should be read
+    ('crates/call_losses/src/lib.rt', 'WritesLossesBy first last w', 'WritesLossesBy first first w'),
+    ('crates/c_losses/src/lib.rt', 'NumbersReadLossesBy first last w sequences values pages blocks words lost r', 'NumbersWriteLossesBy first last w sequences values pages blocks words r'),
+    ('crates/model/specs/Reports.antt', 'Meets (ask (read-losses first last words (length l))) u [] r', 'Meets (ask (read-losses first last words 0)) u [] r'),
     # what can be asked of no caller
     ('crates/call_read/src/lib.rt', 'ensures { λ r. ⌜ MeetsBy (ask (getOf sequence))', 'requires { ⌜ ListsFit w sequences values pages blocks ⌝ }\n    ensures { λ r. ⌜ MeetsBy (ask (getOf sequence))'),
     # an exported call that is no call of the model, and a call that is not exported

@@ -12,6 +12,11 @@ Prints 'N calls agree' and exits 0, or the first differences and exits 1.
 With --large a window_size up to 65536 is taken, and one above is refused 1;
 without it one above 4096 is no call ('?').
 
+    tests/table.py --losses REPORTS ...
+
+REPORTS holds call lines and loss reports with their answers
+(tests/recorded/README.md, 'Loss reports'), which are held against the table.
+
 `Table` follows the section 'The plain table', one method for each call, whose
 docstring is the paper's sentence. `Comparison` holds what it says about the
 rest of an output line: counts, return lists, units. Both are written from the
@@ -24,7 +29,7 @@ starts from new, and has no letter for check.
 import sys
 from collections import Counter
 from functools import lru_cache
-from itertools import zip_longest
+from itertools import groupby, zip_longest
 
 MAX_NUMBER = 4294967295
 LINE_WINDOW = 4096          # the largest window_size of the line program
@@ -54,6 +59,41 @@ def refusal_of_new(window_size, n, demote_at):
 def count_of(first, last):
     """count = ((last − first) modulo 2^32, lowest 31 bits) + 1."""
     return ((last - first) % 2 ** 32) % 2 ** 31 + 1
+
+
+TOP_BIT = 2 ** 31
+
+
+def row_of(first, last):
+    """The sequences from first to last. Order is circular from first."""
+    return [(first + step) % TOP_BIT for step in range(count_of(first, last))]
+
+
+def loss_list(row, lost):
+    """A run of three or more is two words, the first with its top bit set; a
+    shorter run is single words."""
+    words = []
+    for is_lost, run in groupby(row, lambda sequence: sequence in lost):
+        run = list(run) if is_lost else []
+        words += run if len(run) < 3 else [TOP_BIT + run[0], run[-1]]
+    return words
+
+
+def named(row, words):
+    """The sequences of the row that a list names; None if it names none there
+    at a word."""
+    place = {sequence: at for at, sequence in enumerate(row)}
+    found, begun = set(), None
+    for word in words:
+        at = place.get(word % TOP_BIT)
+        if at is None:
+            return None
+        if begun is None and word >= TOP_BIT:
+            begun = at
+        else:
+            found.update(row[at if begun is None else begun:at + 1])
+            begun = None
+    return found
 
 
 class Table:
@@ -186,6 +226,34 @@ class Table:
         if answer != ABSENT:
             self.base = (self.base + 1) % 2 ** 31
         return answer
+
+    def write_losses(self, first, last):
+        """Given first and last, write the draft's loss list of all sequences
+        there that are not live. Both refuse 5 as remove_range does."""
+        refusal = self.refusal_of_report(first, last)
+        if refusal:
+            return refusal
+        row = row_of(first, last)
+        lost = {sequence for sequence in row if self.get(sequence) == ABSENT}
+        return ' '.join(map(str, loss_list(row, lost))) or ABSENT
+
+    def read_losses(self, first, last, words):
+        """One byte for each sequence from first to last, 1 if lost and 0 if
+        not. 12, a list that the writer could write for no set of losses."""
+        refusal = self.refusal_of_report(first, last)
+        if refusal:
+            return refusal
+        row = row_of(first, last)
+        lost = named(row, words)
+        if lost is None or loss_list(row, lost) != words:
+            return refuse(12)
+        return ''.join('1' if sequence in lost else '0' for sequence in row)
+
+    def refusal_of_report(self, first, last):
+        """In the order 10, 5."""
+        if first >= TOP_BIT or last >= TOP_BIT:
+            return refuse(10)
+        return refuse(5) if count_of(first, last) > self.window_size else None
 
     # What the calls share.
 
@@ -473,6 +541,31 @@ def compare_files(calls_path, answers_path, large):
     return calls, differences
 
 
+def report(table, fields):
+    """The table's answer to a loss report: its name, first, last, of `read` the
+    list."""
+    first, last = map(int, fields[1:3])
+    if fields[0] == 'write':
+        return table.write_losses(first, last)
+    return table.read_losses(first, last, [] if fields[3] == '-' else list(map(int, fields[3].split(' '))))
+
+
+def compare_reports(path):
+    """The number of loss reports of a file, and the first differences as text."""
+    comparison, differences, reports = Comparison(), [], 0
+    with read_lines(path) as lines:
+        for at, line in enumerate(lines, 1):
+            *fields, answer = line.rstrip('\n').split('\t')
+            if fields and fields[0] in ('write', 'read'):
+                reports += 1
+                expected = report(comparison.table, fields)
+                if answer != expected:
+                    differences.append('%s:%d: %s: expected %s, got %s' % (path, at, shown('\t'.join(fields)), expected, shown(answer)))
+            elif not line.startswith('#'):
+                comparison.step(*parse(line.rstrip('\n'), LINE_WINDOW))
+    return reports, differences[:SHOWN]
+
+
 def shown(thing):
     """A text for a message: no raw tabs, not too long."""
     if thing is None:
@@ -482,21 +575,21 @@ def shown(thing):
 
 
 def main(arguments):
-    large = '--large' in arguments
-    paths = [argument for argument in arguments if argument != '--large']
-    if not paths or len(paths) % 2:
-        print('usage: table.py [--large] CALLS ANSWERS [CALLS ANSWERS ...]', file=sys.stderr)
+    large, losses = '--large' in arguments, '--losses' in arguments
+    paths = [argument for argument in arguments if argument not in ('--large', '--losses')]
+    if not paths or (len(paths) % 2 and not losses):
+        print('usage: table.py [--large] CALLS ANSWERS [CALLS ANSWERS ...] | --losses REPORTS ...', file=sys.stderr)
         return 2
-    total, agree = 0, True
-    for calls_path, answers_path in zip(paths[::2], paths[1::2]):
-        calls, differences = compare_files(calls_path, answers_path, large)
-        total += calls
-        for difference in differences:
-            print(difference)
-            agree = False
-    if agree:
-        print('%d calls agree' % total)
-    return 0 if agree else 1
+    if losses:
+        compared = [compare_reports(path) for path in paths]
+    else:
+        compared = [compare_files(calls, answers, large) for calls, answers in zip(paths[::2], paths[1::2])]
+    differences = [difference for _, found in compared for difference in found]
+    for difference in differences:
+        print(difference)
+    if not differences:
+        print('%d %s agree' % (sum(number for number, _ in compared), 'loss reports' if losses else 'calls'))
+    return 1 if differences else 0
 
 
 if __name__ == '__main__':

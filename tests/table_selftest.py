@@ -4,7 +4,7 @@
 Takes right files, first of all document 01's own listing, and checks that they
 agree; then alters one token at a time and checks that each wrong file is
 refused. Needs no line program: all answers here are worked out by hand from
-document 01. Prints one closing line; exits 1 when a right file is refused or a
+documents 01 and 02. Prints one closing line; exits 1 when a right file is refused or a
 wrong one passes.
 """
 
@@ -282,6 +282,56 @@ PARSE = (['g\t5', 'n\t0\t1\t0', 'l', '', 'n\t64\t1\t0', 'n\t4097\t64\t99', 'x', 
          ['?', 'n\t!1\t0\t0\t0\t0', '?', '?', 'n\t.\t0\t0\t0\t0'] + ['?'] * 20
          + ['g\t!10\t0\t0\t0\t0', 'g\t-\t0\t0\t0\t0'])
 
+# Document 02, S-4: 5 live, 9 removed by a range; a word of 2147483648 or more is a sequence with its top bit set.
+LOSSES = tabbed('''
+n 64 2 1
+i 5 50
+i 9 90
+d 9 9
+write 3 7 3,4,6,7
+write 3 10 3,4,2147483654,10
+write 69 69 69
+write 2147483647 1 4294967295,1
+write 5 5 -
+write 0 64 !5
+write 2147483648 5 !10
+read 3 8 3,2147483653,7 101110
+read 3 8 - 000000
+read 3 8 3,4,5 !12
+read 3 8 2147483651,4 !12
+read 3 8 3,2147483652,6 !12
+read 3 8 2147483652 !12
+read 3 8 9 !12
+read 2147483647 1 2147483647,0 110
+read 5 4 - !5
+''')
+LOSSES = [line.replace(',', ' ') for line in LOSSES]
+
+# (what is wrong, the number of the line, the wrong answer)
+WRONG_LOSSES = [
+    ('a live sequence listed', 5, '2147483651 7'),
+    ('a run of two as a range', 5, '2147483651 4 6 7'),
+    ('a removed sequence not listed', 6, '3 4 2147483654 8 10'),
+    ('a run of three or more as single words', 6, '3 4 6 7 8 9 10'),
+    ('a second word with its top bit set', 6, '3 4 2147483654 2147483658'),
+    ('a sequence live by its position alone', 7, '-'),
+    ('a run cut at the wrap', 8, '2147483647 0 1'),
+    ('a word where nothing is lost', 9, '5'),
+    ('a range above window_size reported', 10, '2147483648 64'),
+    ('5 before 10', 11, '!5'),
+    ('a run of three read as its ends', 12, '101010'),
+    ('a right list refused', 12, '!12'),
+    ('a byte too many', 12, '1011100'),
+    ('losses in an empty list', 13, '000001'),
+    ('three single words in a row taken', 14, '111000'),
+    ('a pair for two sequences taken', 15, '110000'),
+    ('runs that touch taken', 16, '111100'),
+    ('a first word alone taken', 17, '010000'),
+    ('a word past the range passed over', 18, '000000'),
+    ('a range that does not wrap read', 19, '!12'),
+    ('12 before 5', 20, '!12'),
+]
+
 # (what is wrong, the right files, the number of the line, the wrong line or
 # None for a line left out)
 WRONG = [
@@ -411,8 +461,13 @@ def text(lines):
 
 def run(folder, calls, answers, *options):
     """Exit code and output of the comparison on these two texts."""
-    paths = [os.path.join(folder, name) for name in ('calls', 'answers')]
-    for path, content in zip(paths, (calls, answers)):
+    return run_on(folder, {'calls': calls, 'answers': answers}, *options)
+
+
+def run_on(folder, files, *options):
+    """The same on files of these names and texts."""
+    paths = [os.path.join(folder, name) for name in files]
+    for path, content in zip(paths, files.values()):
         with open(path, 'w', encoding='utf-8', newline='') as out:
             out.write(content)
     said = io.StringIO()
@@ -461,14 +516,31 @@ def wrong_files(folder, fail):
     return len(wrong)
 
 
+def loss_reports(folder, fail):
+    """Reports that must agree, and answers that must be refused at their line;
+    gives their number."""
+    def said(lines):
+        return run_on(folder, {'reports': text(lines)}, '--losses')
+
+    if said(LOSSES) != (0, '16 loss reports agree\n'):
+        fail('loss reports: refused: %s' % said(LOSSES)[1])
+    for name, at, answer in WRONG_LOSSES:
+        line = LOSSES[at - 1].rpartition('\t')[0] + '\t' + answer
+        code, found = said(LOSSES[:at - 1] + [line] + LOSSES[at:])
+        if code != 1 or '/reports:%d: ' % at not in found.replace(os.sep, '/'):
+            fail('%s: passes, or is refused elsewhere: %s' % (name, found))
+    return len(WRONG_LOSSES)
+
+
 def main():
     failures = []
     with tempfile.TemporaryDirectory() as folder:
         right_files(folder, failures.append)
         count = wrong_files(folder, failures.append)
+        reports = loss_reports(folder, failures.append)
     for failure in failures:
         print(failure)
-    print('%d right files agree, %d wrong files refused' % (len(RIGHT), count)
+    print('%d right files agree, %d wrong files and %d wrong loss reports refused' % (len(RIGHT) + 1, count, reports)
           if not failures else '%d failures' % len(failures))
     return 1 if failures else 0
 

@@ -622,6 +622,56 @@ impl Generator {
         }
     }
 
+    /// Packets in a row next, but for those that are lost; some lists of loss
+    /// reports ask for it.
+    pub fn lossy_run(&mut self) {
+        let count = self
+            .random
+            .between(1, self.window_size.min(self.longest_run.max(PAGE)));
+        let (first, percent) = (wire(self.head), self.random.pick(&[3, 20, 50, 80]));
+        if self.random.percent(60) {
+            self.remove_range(first, first.wrapping_add(count - 1));
+        }
+        for offset in 0..count {
+            if !self.random.percent(percent) {
+                self.insert(first.wrapping_add(offset));
+            }
+        }
+        self.last_run = (first, count);
+        self.head = first.wrapping_add(count);
+    }
+
+    /// First and last of a range to report the losses of: the last run, round
+    /// values that are probably live, short or long, or as for a stranger.
+    pub fn report(&mut self) -> (u32, u32) {
+        match self.random.below(6) {
+            0 => match self.stranger() {
+                Call::Stranger { first, last } => (first, last),
+                _ => unreachable!("it asks for a stranger"),
+            },
+            1 => self.short_report(),
+            2 | 3 => {
+                let (first, count) = self.last_run;
+                (wire(first), wire(first.wrapping_add(count - 1)))
+            }
+            _ => {
+                let (first, last) = self.ends();
+                (wire(first), wire(last))
+            }
+        }
+    }
+
+    /// The same of few sequences, also where values were, which may be retired.
+    pub fn short_report(&mut self) -> (u32, u32) {
+        let near = match self.random.below(3) {
+            0 => self.former(),
+            _ => self.known(),
+        };
+        let first = wire(near.wrapping_sub(self.random.below(12)));
+        let count = self.random.between(1, self.window_size.min(24));
+        (first, wire(first + count - 1))
+    }
+
     fn range(&mut self) {
         let (first, last) = self.ends();
         if self.random.percent(40) {

@@ -1,14 +1,24 @@
 //! Writes a seeded call file for the line program to standard output.
 //!
 //! `generate SEED CALLS [--large|--small] [--pairs] [--strangers] [--clean]`
+//!
+//! `generate SEED CALLS --losses`: a file of loss reports, on windows up to 512
+//! (tests/recorded/README.md).
 
 mod calls;
 mod line;
+mod lists;
+mod losses;
+mod report;
 
 use calls::{Generator, Item, Options, Random};
 use line::Call;
+use report::Report;
 use std::io::{self, Write};
 use std::process::ExitCode;
+
+/// The most sequences that a list is made for.
+const LISTED: usize = 24;
 
 struct Arguments {
     seed: u64,
@@ -18,6 +28,8 @@ struct Arguments {
     pairs: bool,
     /// A `q` line after each call.
     strangers: bool,
+    /// Loss reports between the calls.
+    losses: bool,
 }
 
 fn arguments() -> Option<Arguments> {
@@ -27,6 +39,7 @@ fn arguments() -> Option<Arguments> {
     let mut options = Options::default();
     let mut pairs = false;
     let mut strangers = false;
+    let mut losses = false;
     for word in words {
         match word.as_str() {
             "--large" => options.large = true,
@@ -34,6 +47,10 @@ fn arguments() -> Option<Arguments> {
             "--pairs" => pairs = true,
             "--strangers" => strangers = true,
             "--clean" => options.clean = true,
+            "--losses" => {
+                losses = true;
+                (options.small, options.clean) = (true, true);
+            }
             _ => return None,
         }
     }
@@ -43,6 +60,7 @@ fn arguments() -> Option<Arguments> {
         options,
         pairs,
         strangers,
+        losses,
     })
 }
 
@@ -56,8 +74,10 @@ fn file(arguments: &Arguments) -> Vec<u8> {
         options,
         pairs,
         strangers,
+        losses,
     } = *arguments;
     let mut generator = Generator::new(seed, calls, options);
+    let mut random = Random::new(!seed);
     let mut file = Vec::new();
     for _ in 0..calls {
         let item = generator.next();
@@ -69,11 +89,34 @@ fn file(arguments: &Arguments) -> Vec<u8> {
             let call = generator.stranger();
             push_line(&mut file, &Item::Call(call));
         }
+        if losses && random.percent(3) {
+            generator.lossy_run();
+        }
+        if losses && random.percent(40) {
+            writeln!(file, "{}", report(&mut generator, &mut random).line())
+                .expect("a vector takes all");
+        }
     }
-    if !options.clean && Random::new(!seed).percent(25) {
+    if !options.clean && random.percent(25) {
         file.pop();
     }
     file
+}
+
+/// A report, in half of the cases one that reads a list. Of a long range, the
+/// list is one of its first sequences.
+fn report(generator: &mut Generator, random: &mut Random) -> Report {
+    let writes = random.percent(50);
+    let (first, last) = match writes || random.percent(20) {
+        true => generator.report(),
+        false => generator.short_report(),
+    };
+    if writes {
+        return Report::Write { first, last };
+    }
+    let count = (losses::distance(first, last) + 1).min(LISTED);
+    let list = lists::some_list(random, first % losses::TOP_BIT, count);
+    Report::Read { first, last, list }
 }
 
 fn push_line(file: &mut Vec<u8>, item: &Item) {
@@ -83,7 +126,7 @@ fn push_line(file: &mut Vec<u8>, item: &Item) {
 
 fn main() -> ExitCode {
     let Some(arguments) = arguments() else {
-        eprintln!("usage: generate SEED CALLS [--large|--small] [--pairs] [--strangers] [--clean]");
+        eprintln!("usage: generate SEED CALLS [--large|--small] [--pairs] [--strangers] [--clean] | SEED CALLS --losses");
         return ExitCode::from(2);
     };
     match io::stdout().lock().write_all(&file(&arguments)) {

@@ -3,6 +3,8 @@
 //! Reads calls from standard input, writes one line of answer for each.
 //! `--large` lifts the limit of 4096 on window_size. `--words` writes in place
 //! of each answer the window's whole state after the line (`-` if there is none).
+//! `--losses` reads a file of loss reports (tests/recorded/README.md) and writes
+//! its lines again, each report with its answer.
 
 /// The source's work counters stay out.
 macro_rules! count_work {
@@ -10,7 +12,9 @@ macro_rules! count_work {
 }
 
 mod line;
+mod losses;
 mod reference;
+mod report;
 mod state;
 mod value;
 #[path = "../target/window.rs"]
@@ -18,11 +22,20 @@ mod window;
 
 use line::Call;
 use reference::{call_and_drops, fresh, Answer, Window};
+use report::{answer_text, list_text, lost_text, Report};
 use std::fmt::Write as _;
 use std::io::{self, Read, Write as _};
 use std::process::ExitCode;
 
 const LARGEST_WINDOW: u32 = 4096;
+
+/// What is written for a line.
+#[derive(Clone, Copy)]
+enum Output {
+    Answers,
+    States,
+    Reports,
+}
 
 struct Program {
     largest_window: u32,
@@ -64,6 +77,39 @@ impl Program {
         })
     }
 
+    /// A line of a file of loss reports: a report with its answer, another line
+    /// as it is, with its call made.
+    fn reported(&mut self, line: &[u8]) -> io::Result<String> {
+        let text = String::from_utf8_lossy(line);
+        if let Some((report, _)) = Report::read(&text) {
+            let answer = self.report(&report).ok_or(io::ErrorKind::InvalidData)?;
+            return Ok(format!("{}\t{answer}", report.line()));
+        }
+        if !line.starts_with(b"#") && self.answer(line) == "?" {
+            return Err(io::Error::new(
+                io::ErrorKind::InvalidData,
+                format!("no call, no report: {text}"),
+            ));
+        }
+        Ok(text.into_owned())
+    }
+
+    fn report(&self, report: &Report) -> Option<String> {
+        let window = self.window.as_deref()?;
+        let size = window.window_size();
+        Some(match report {
+            Report::Write { first, last } => {
+                let lost = losses::lost(size, *first, *last, |sequence| window.is_live(sequence));
+                answer_text(lost, |lost| list_text(&losses::words(*first, &lost)))
+            }
+            Report::Read { first, last, list } => {
+                answer_text(losses::read(size, *first, *last, list), |lost| {
+                    lost_text(&lost)
+                })
+            }
+        })
+    }
+
     fn state(&self) -> String {
         self.window
             .as_deref()
@@ -72,7 +118,9 @@ impl Program {
 
     /// Len, retired_held, promotions and demotions; 0 with no window.
     fn counts(&self) -> [u64; 4] {
-        self.window.as_ref().map_or([0; 4], |window| window.counts())
+        self.window
+            .as_ref()
+            .map_or([0; 4], |window| window.counts())
     }
 }
 
@@ -114,7 +162,7 @@ fn lines(input: &[u8]) -> impl Iterator<Item = &[u8]> {
         .map(|line| line.strip_suffix(b"\n").unwrap_or(line))
 }
 
-fn run(largest_window: u32, words: bool) -> io::Result<()> {
+fn run(largest_window: u32, wanted: Output) -> io::Result<()> {
     let mut input = Vec::new();
     io::stdin().lock().read_to_end(&mut input)?;
     let mut output = io::BufWriter::new(io::stdout().lock());
@@ -123,25 +171,33 @@ fn run(largest_window: u32, words: bool) -> io::Result<()> {
         window: None,
     };
     for line in lines(&input) {
-        let answer = program.answer(line);
-        writeln!(output, "{}", if words { program.state() } else { answer })?;
+        let written = match wanted {
+            Output::Reports => program.reported(line)?,
+            Output::Answers => program.answer(line),
+            Output::States => {
+                program.answer(line);
+                program.state()
+            }
+        };
+        writeln!(output, "{written}")?;
     }
     output.flush()
 }
 
 fn main() -> ExitCode {
-    let (mut largest_window, mut words) = (LARGEST_WINDOW, false);
+    let (mut largest_window, mut wanted) = (LARGEST_WINDOW, Output::Answers);
     for argument in std::env::args().skip(1) {
         match argument.as_str() {
             "--large" => largest_window = u32::MAX,
-            "--words" => words = true,
+            "--words" => wanted = Output::States,
+            "--losses" => wanted = Output::Reports,
             _ => {
-                eprintln!("usage: oracle [--large] [--words] < calls");
+                eprintln!("usage: oracle [--large] [--words|--losses] < calls");
                 return ExitCode::from(2);
             }
         }
     }
-    match run(largest_window, words) {
+    match run(largest_window, wanted) {
         Ok(()) => ExitCode::SUCCESS,
         Err(error) => {
             eprintln!("oracle: {error}");

@@ -43,6 +43,9 @@ pub trait Window: Memory {
     fn header(&self) -> WindowHeader;
     /// Len, retired_held, promotions and demotions.
     fn counts(&self) -> [u64; 4];
+    fn window_size(&self) -> u32;
+    /// Whether `get` finds the sequence.
+    fn is_live(&self, sequence: u32) -> bool;
 }
 
 /// The words and cells of a window, for comparisons with the port's.
@@ -123,6 +126,14 @@ impl<const N: usize> Window for Based<N> {
             header.promotions,
             header.demotions,
         ]
+    }
+
+    fn window_size(&self) -> u32 {
+        self.window.window_size()
+    }
+
+    fn is_live(&self, sequence: u32) -> bool {
+        self.window.get(sequence).is_some()
     }
 }
 

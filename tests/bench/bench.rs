@@ -9,6 +9,10 @@
 //! marked `point` the point is asked for after each packet: on the library it is in the header, on the source it is looked for by a get
 //! of each sequence from the base on. `front, 1 % lost`: one packet in a hundred never comes, and the base is set past it. `hole`: the
 //! one sequence missing before half a window of live ones is inserted and removed again.
+//!
+//! In the rows `write_losses` a loss report is made over a whole window, full but for random losses, into a list that is always long
+//! enough or, in the row marked `exact`, has just the places; on the source by a get of each sequence. In the row `read_losses` such a list
+//! is read. The lists that they leave are in the sums, outside the time.
 
 /// The source's work counters stay out.
 macro_rules! count_work {
@@ -27,7 +31,7 @@ mod window;
 
 use clock::{clock_time, processor_time};
 use std::process::ExitCode;
-use subjects::{Called, Host, Inlined, Library, Window, ABSENT};
+use subjects::{listed, loss_words, Called, Host, Inlined, Library, Window, ABSENT};
 
 const ROUNDS: usize = 25;
 const CALLS: u32 = 100_000;
@@ -80,6 +84,10 @@ enum Work {
     /// So many sequences live after the base, which is inserted and removed again and again. With `point`, that is asked for after each
     /// call.
     Hole { live: u32, point: bool },
+    /// The losses of the whole window written to a list of so many places.
+    WriteLosses { places: usize },
+    /// A loss list of the whole window read.
+    ReadLosses { words: Vec<u32> },
 }
 
 /// Sequences that are looked at for the point in one round, at most.
@@ -123,12 +131,35 @@ impl Work {
         }
     }
 
+    /// The lists that are lent for it.
+    fn lists(&self, size: u32) -> Lists {
+        match self {
+            Work::WriteLosses { places } => Lists { words: vec![u32::MAX; *places], lost: Vec::new() },
+            Work::ReadLosses { words } => Lists { words: words.clone(), lost: vec![u8::MAX; size as usize] },
+            _ => Lists::default(),
+        }
+    }
+
     /// Whether the position, counted from the first one filled, gets a value.
     fn holds(&self, at: u32) -> bool {
         match self {
             Work::Ranges { holds, .. } => holds(at),
             _ => true,
         }
+    }
+}
+
+/// The lists of loss reports, empty in other rows.
+#[derive(Default)]
+struct Lists {
+    words: Vec<u32>,
+    lost: Vec<u8>,
+}
+
+impl Lists {
+    fn sum(&self) -> u64 {
+        let numbers = self.words.iter().map(|&word| u64::from(word)).chain(self.lost.iter().map(|&byte| u64::from(byte)));
+        numbers.fold(0, |sum: u64, number| sum.wrapping_mul(31).wrapping_add(number))
     }
 }
 
@@ -284,6 +315,33 @@ fn rows() -> Vec<Row> {
         row("clear", vec![], Work::Clear { held: size.min(300) });
         row("show", vec![], show(size));
     }
+    rows.extend(reports());
+    rows
+}
+
+/// The size of the window that losses are reported of.
+const REPORTED: u32 = 32768;
+
+/// Loss reports of a whole window in which so many percent are lost at random.
+fn reports() -> Vec<Row> {
+    let (end, places) = (START + REPORTED - 1, loss_words(REPORTED));
+    let lossy = |percent: u32| {
+        let mut random = Random(0x9e37_79b9_7f4a_7c15);
+        let held: Vec<u32> = (START..=end).filter(|_| random.below(100) >= percent).collect();
+        let mut words = vec![0; places];
+        let count = listed(|sequence| held.binary_search(&sequence).is_ok(), &mut words, START, end);
+        words.truncate(count);
+        (held, words)
+    };
+    let row = |name, held, work| Row { name, size: REPORTED, host: false, held, work };
+    let mut rows = vec![
+        row("write_losses, 0 % lost", lossy(0).0, Work::WriteLosses { places }),
+        row("write_losses, 1 % lost", lossy(1).0, Work::WriteLosses { places }),
+        row("write_losses, 10 % lost", lossy(10).0, Work::WriteLosses { places }),
+    ];
+    let (held, words) = lossy(10);
+    rows.push(row("write_losses, 10 % lost, exact", held.clone(), Work::WriteLosses { places: words.len() }));
+    rows.push(row("read_losses, 10 % lost", held, Work::ReadLosses { words }));
     rows
 }
 
@@ -317,7 +375,7 @@ fn prepare<W: Window>(windows: &mut [W], row: &Row) -> u64 {
 /// The row's calls once: how many there were, and the sum of what they answered. `from` is where sequences start. Work on
 /// windows that were filled is done on each, other work on the first.
 #[inline(always)]
-fn work<W: Window>(windows: &mut [W], row: &Row, from: &mut u32) -> (u32, u64) {
+fn work<W: Window>(windows: &mut [W], lists: &mut Lists, row: &Row, from: &mut u32) -> (u32, u64) {
     let mut sum = 0u64;
     let w = &mut windows[0];
     let mut add = |answer: u64| sum = sum.wrapping_mul(31).wrapping_add(answer);
@@ -430,6 +488,14 @@ fn work<W: Window>(windows: &mut [W], row: &Row, from: &mut u32) -> (u32, u64) {
             }
             2 * times
         }
+        Work::WriteLosses { .. } => {
+            (0..times(row.size)).for_each(|_| add(w.write_losses(&mut lists.words, START, START + row.size - 1)));
+            times(row.size)
+        }
+        Work::ReadLosses { .. } => {
+            (0..times(row.size)).for_each(|_| add(w.read_losses(&lists.words, &mut lists.lost, START, START + row.size - 1)));
+            times(row.size)
+        }
     };
     (calls, sum)
 }
@@ -437,6 +503,7 @@ fn work<W: Window>(windows: &mut [W], row: &Row, from: &mut u32) -> (u32, u64) {
 /// Windows of one kind with their times: one, or as many as are filled for a pass.
 struct Timed<W> {
     windows: Vec<W>,
+    lists: Lists,
     passes: u32,
     clock: i64,
     from: u32,
@@ -460,7 +527,7 @@ impl<W: Window> Timed<W> {
             windows[0].insert(sequence, !sequence);
         }
         windows[0].set_base(row.work.base(row.size));
-        let mut timed = Self { windows, passes, clock: clock_time(), from: row.size, nanoseconds: Vec::new() };
+        let mut timed = Self { windows, lists: row.work.lists(row.size), passes, clock: clock_time(), from: row.size, nanoseconds: Vec::new() };
         timed.round(row);
         timed.nanoseconds.clear();
         timed
@@ -472,10 +539,12 @@ impl<W: Window> Timed<W> {
         for _ in 0..self.passes {
             let prepared = prepare(&mut self.windows, row);
             let start = processor_time();
-            let (made, answers) = work(&mut self.windows, row, &mut self.from);
+            let (made, answers) = work(&mut self.windows, &mut self.lists, row, &mut self.from);
             time += processor_time() - start - self.clock;
             calls += made;
-            sum = sum.wrapping_mul(31).wrapping_add(prepared).wrapping_mul(31).wrapping_add(answers);
+            for part in [prepared, answers, self.lists.sum()] {
+                sum = sum.wrapping_mul(31).wrapping_add(part);
+            }
         }
         self.nanoseconds.push(time as f64 / f64::from(calls));
         sum

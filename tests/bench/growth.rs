@@ -2,8 +2,8 @@
 //!
 //! One line for each call in each window: the series, the call, the window's size, the live values, then the median of the
 //! rounds in nanoseconds a call, of the library (insert, remove and release_retired by their host forms) and of the source
-//! with each call behind a call boundary, where a point is looked for by a get of each sequence from the base on. What the
-//! calls answered is summed, and the sums must be equal.
+//! with each call behind a call boundary, where a point is looked for by a get of each sequence from the base on, and a loss
+//! list made by a get of each sequence of its range. What the calls answered is summed, and the sums must be equal.
 
 /// The source's work counters stay out.
 macro_rules! count_work {
@@ -22,7 +22,7 @@ mod window;
 
 use clock::{clock_time, processor_time};
 use std::process::ExitCode;
-use subjects::{Called, Host, Window};
+use subjects::{loss_words, Called, Host, Window};
 
 const ROUNDS: usize = 25;
 const CALLS: u32 = 20_000;
@@ -33,7 +33,7 @@ const FEW: u32 = 8;
 const NEAR: u32 = 16;
 const VISIT: u32 = 256;
 
-/// The calls of a line. Live values lie at equal distances but for InOrder and the last three, where they lie in a row.
+/// The calls of a line. Live values lie at equal distances but for InOrder and the last five, where they lie in a row.
 #[derive(Clone, Copy, PartialEq)]
 enum Calls {
     /// The oldest value removed, the next one inserted.
@@ -57,9 +57,13 @@ enum Calls {
     SetBase,
     /// Live values in a row after the base, which is inserted and removed; the point is asked for after each call.
     Hole,
+    /// Values in a row of which one in a hundred is lost: their losses written.
+    WriteLosses,
+    /// That list read.
+    ReadLosses,
 }
 
-const CALLS_NAMED: [(Calls, &str); 11] = [
+const CALLS_NAMED: [(Calls, &str); 13] = [
     (Calls::InOrder, "insert and remove"),
     (Calls::Get, "get"),
     (Calls::GetNear, "get, 16 sequences"),
@@ -71,9 +75,11 @@ const CALLS_NAMED: [(Calls, &str); 11] = [
     (Calls::Front, "insert at the point, take_front"),
     (Calls::SetBase, "insert at the point, set_base, remove"),
     (Calls::Hole, "hole before them filled and made again"),
+    (Calls::WriteLosses, "write_losses over them, 1 % lost"),
+    (Calls::ReadLosses, "read_losses over them, 1 % lost"),
 ];
 
-/// Gets of a scan for the point in one round, at most.
+/// Gets of a scan for the point or for losses in one round, at most.
 const SCANNED: u32 = 2_000_000;
 
 /// A window with its live values.
@@ -117,7 +123,7 @@ fn asked(calls: Calls, held: Held) -> Vec<u32> {
 
 /// The calls once: how many there were and the sum of their answers. `from` is the next sequence to insert.
 #[inline(never)]
-fn made<W: Window>(w: &mut W, calls: Calls, held: Held, asked: &[u32], from: &mut u32) -> (u32, u64) {
+fn made<W: Window>(w: &mut W, lists: &mut Lists, calls: Calls, held: Held, asked: &[u32], from: &mut u32) -> (u32, u64) {
     let mut sum = 0u64;
     let mut add = |answer: u64| sum = sum.wrapping_mul(31).wrapping_add(answer);
     let mut count = CALLS;
@@ -168,13 +174,28 @@ fn made<W: Window>(w: &mut W, calls: Calls, held: Held, asked: &[u32], from: &mu
                 add(w.point());
             }
         }
+        Calls::WriteLosses => {
+            count = CALLS.min(SCANNED / held.live);
+            (0..count).for_each(|_| add(w.write_losses(&mut lists.words, 0, held.live - 1)));
+        }
+        Calls::ReadLosses => {
+            count = CALLS.min(SCANNED / held.live);
+            (0..count).for_each(|_| add(w.read_losses(&lists.words, &mut lists.lost, 0, held.live - 1)));
+        }
     }
     (count, sum)
+}
+
+/// The lists of loss reports.
+struct Lists {
+    words: Vec<u32>,
+    lost: Vec<u8>,
 }
 
 /// A window with the times of its rounds.
 struct Timed<W> {
     window: W,
+    lists: Lists,
     from: u32,
     nanoseconds: Vec<f64>,
 }
@@ -188,18 +209,25 @@ impl<W: Window> Timed<W> {
             }
             window.clear();
         }
-        let in_a_row = matches!(calls, Calls::InOrder | Calls::Front | Calls::SetBase | Calls::Hole);
+        let reported = matches!(calls, Calls::WriteLosses | Calls::ReadLosses);
+        let in_a_row = reported || matches!(calls, Calls::InOrder | Calls::Front | Calls::SetBase | Calls::Hole);
         let distance = if in_a_row { 1 } else { held.distance() };
         let first = u32::from(calls == Calls::Hole);
-        for at in 0..held.live.min(held.size - first) {
+        let mut random = Random(0x9e37_79b9_7f4a_7c15);
+        for at in (0..held.live.min(held.size - first)).filter(|_| !reported || random.below(100) > 0) {
             window.insert(first + at * distance, at);
         }
-        Self { window, from: held.live, nanoseconds: Vec::new() }
+        let mut lists = Lists { words: vec![0; loss_words(held.live)], lost: vec![0; held.live as usize] };
+        if calls == Calls::ReadLosses {
+            let count = window.write_losses(&mut lists.words, 0, held.live - 1) as u32;
+            lists.words.truncate(count as usize);
+        }
+        Self { window, lists, from: held.live, nanoseconds: Vec::new() }
     }
 
     fn round(&mut self, calls: Calls, held: Held, asked: &[u32], clock: i64) -> u64 {
         let start = processor_time();
-        let (count, sum) = made(&mut self.window, calls, held, asked, &mut self.from);
+        let (count, sum) = made(&mut self.window, &mut self.lists, calls, held, asked, &mut self.from);
         let time = processor_time() - start - clock;
         self.nanoseconds.push(time as f64 / f64::from(count));
         sum

@@ -14,6 +14,8 @@ const WORDS: usize = 8192;
 const ARGUMENTS: usize = 32;
 const REGISTERS: usize = 6;
 const RETURNED: usize = 384;
+/// Places of the lists of a loss report.
+const LONGEST: usize = 65536;
 
 // target, six arguments in registers, the stack with the other arguments: the call made on that stack.
 std::arch::global_asm!(
@@ -172,6 +174,17 @@ impl Window {
         }
     }
 
+    /// The losses of a range written, and the list read.
+    fn report(&mut self, stack: &mut Stack, (first, last): (u32, u32)) {
+        let header: [u64; size_of::<Header>() / 8] = unsafe { transmute(self.header) };
+        let (mut words, mut lost) = (vec![0u32; LONGEST], vec![0u8; LONGEST]);
+        let (list, ends) = (words.as_mut_ptr() as u64, [u64::from(first), u64::from(last)]);
+        let arguments = [&self.lists()[..], &[list, LONGEST as u64], &ends].concat();
+        let written = call!(stack, &header, packet_window_write_losses, arguments, NumberedStep).answer.first;
+        let arguments = [&self.lists()[..], &[list, u64::from(written), lost.as_mut_ptr() as u64, LONGEST as u64], &ends].concat();
+        call!(stack, &header, packet_window_read_losses, arguments, NumberedStep);
+    }
+
     /// The call check, which must find the state sound.
     fn check(&mut self, stack: &mut Stack) {
         let header: [u64; size_of::<Header>() / 8] = unsafe { transmute(self.header) };
@@ -195,6 +208,7 @@ fn list(stack: &mut Stack, seed: u64, options: Options) -> u32 {
             w.call(stack, call, random.percent(50));
             if random.percent(2) {
                 w.check(stack);
+                w.report(stack, generator.report());
             }
         }
         made += 1;

@@ -23,6 +23,10 @@ pub trait Window {
     fn take_front(&mut self) -> u64;
     /// The first sequence from the base that is not live: of the library a field of its header, of the source looked for.
     fn point(&self) -> u64;
+    /// The loss list of first to last: of the source by a get of each sequence.
+    fn write_losses(&self, words: &mut [u32], first: u32, last: u32) -> u64;
+    /// What a loss list says of first to last: of the source by a plain reader, which takes other lists too.
+    fn read_losses(&self, words: &[u32], lost: &mut [u8], first: u32, last: u32) -> u64;
 }
 
 /// The library's code of what release_retired answers.
@@ -65,6 +69,57 @@ fn scanned(w: &impl Window, base: u32, window_size: u32) -> u64 {
         reach += 1;
     }
     u64::from(after(base, reach))
+}
+
+/// The top bit of a word of a loss list: a run that ends with the next word.
+const TOP_BIT: u32 = 1 << 31;
+
+/// The most words of a loss list for so many sequences.
+pub fn loss_words(count: u32) -> usize {
+    (count - count / 3) as usize
+}
+
+/// The loss list of the sequences of first to last that `is_live` does not find; how many words it has.
+#[inline(always)]
+pub fn listed(is_live: impl Fn(u32) -> bool, words: &mut [u32], first: u32, last: u32) -> usize {
+    let count = after(last, 1u32.wrapping_sub(first));
+    let (mut at, mut run) = (0, 0);
+    for distance in 0..=count {
+        if distance < count && !is_live(after(first, distance)) {
+            run += 1;
+            continue;
+        }
+        if run > 0 {
+            words[at] = after(first, distance - run) | if run > 2 { TOP_BIT } else { 0 };
+            if run > 1 {
+                words[at + 1] = after(first, distance - 1);
+            }
+            at += run.min(2) as usize;
+            run = 0;
+        }
+    }
+    at
+}
+
+/// A plain reader: the bytes cleared, then set for each word; refused where a word is outside the range.
+#[inline(always)]
+fn set_from(words: &[u32], lost: &mut [u8], first: u32, last: u32) -> u64 {
+    let bytes = &mut lost[..after(last, 1u32.wrapping_sub(first)) as usize];
+    bytes.fill(0);
+    let (mut number, mut begun) = (0, None);
+    for &word in words {
+        let at = after(word, 0u32.wrapping_sub(first)) as usize;
+        if word >= TOP_BIT {
+            begun = Some(at);
+            continue;
+        }
+        let Some(run) = bytes.get_mut(begun.take().unwrap_or(at)..=at) else {
+            return REFUSED;
+        };
+        run.fill(1);
+        number += run.len() as u64;
+    }
+    FOUND | number
 }
 
 fn found(answer: Option<u32>) -> u64 {
@@ -200,6 +255,16 @@ impl Window for Library {
     fn point(&self) -> u64 {
         u64::from(self.header.point)
     }
+
+    fn write_losses(&self, words: &mut [u32], first: u32, last: u32) -> u64 {
+        let (w, places) = (self, words.len());
+        number(call!(w, packet_window_write_losses, [sequences, values, pages, blocks], words.as_mut_ptr(), places, first, last).answer)
+    }
+
+    fn read_losses(&self, words: &[u32], lost: &mut [u8], first: u32, last: u32) -> u64 {
+        let (w, list, length, bytes, places) = (self, words.as_ptr(), words.len(), lost.as_mut_ptr(), lost.len());
+        number(call!(w, packet_window_read_losses, [sequences, values, pages, blocks], list, length, bytes, places, first, last).answer)
+    }
 }
 
 /// The same by the host forms, for the calls that have one.
@@ -259,6 +324,14 @@ impl Window for Host {
 
     fn point(&self) -> u64 {
         self.0.point()
+    }
+
+    fn write_losses(&self, words: &mut [u32], first: u32, last: u32) -> u64 {
+        self.0.write_losses(words, first, last)
+    }
+
+    fn read_losses(&self, words: &[u32], lost: &mut [u8], first: u32, last: u32) -> u64 {
+        self.0.read_losses(words, lost, first, last)
     }
 }
 
@@ -333,6 +406,14 @@ impl Window for Inlined {
     fn point(&self) -> u64 {
         scanned(self, self.base, self.window_size)
     }
+
+    fn write_losses(&self, words: &mut [u32], first: u32, last: u32) -> u64 {
+        FOUND | listed(|sequence| self.window.get(sequence).is_some(), words, first, last) as u64
+    }
+
+    fn read_losses(&self, words: &[u32], lost: &mut [u8], first: u32, last: u32) -> u64 {
+        set_from(words, lost, first, last)
+    }
 }
 
 /// The source with each call, for iter each step, behind a call boundary.
@@ -406,5 +487,14 @@ impl Window for Called {
 
     fn point(&self) -> u64 {
         scanned(self, self.0.base, self.0.window_size)
+    }
+
+    fn write_losses(&self, words: &mut [u32], first: u32, last: u32) -> u64 {
+        FOUND | listed(|sequence| self.get(sequence) != ABSENT, words, first, last) as u64
+    }
+
+    #[inline(never)]
+    fn read_losses(&self, words: &[u32], lost: &mut [u8], first: u32, last: u32) -> u64 {
+        self.0.read_losses(words, lost, first, last)
     }
 }

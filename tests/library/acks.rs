@@ -21,9 +21,12 @@ mod declared;
 mod library;
 #[path = "../../oracle/src/line.rs"]
 mod line;
+#[allow(dead_code)] // those with seeds use the rest
+mod program;
 #[allow(dead_code)]
 #[path = "../../oracle/src/reference.rs"]
 mod reference;
+mod traffic;
 #[path = "../../oracle/src/value.rs"]
 mod value;
 #[path = "../../oracle/target/window.rs"]
@@ -32,29 +35,10 @@ mod window;
 use calls::Random;
 use library::Library;
 use line::Call;
+use program::ended;
 use reference::{call_and_drops, fresh, Answer, Window};
-use std::fs;
 use std::process::ExitCode;
-
-/// More than a connection has sequences, so that none of them share a position.
-const WINDOW_SIZE: u32 = 4096;
-const LAST: u32 = u32::MAX >> 1;
-
-fn add(sequence: u32, steps: u32) -> u32 {
-    sequence.wrapping_add(steps) & LAST
-}
-
-fn distance(from: u32, to: u32) -> u32 {
-    to.wrapping_sub(from) & LAST
-}
-
-#[derive(Debug, Clone, Copy, PartialEq, Eq)]
-enum Event {
-    Data(u32),
-    Ack(u32),
-    /// Delivered to the application: what has not come before it is given up.
-    Taken(u32),
-}
+use traffic::{add, distance, Event, LAST, WINDOW_SIZE};
 
 /// An ACK, and what had been received: first and last, as offsets from the first sequence.
 struct Vector {
@@ -62,24 +46,6 @@ struct Vector {
     number: u32,
     given_up: bool,
     received: Vec<(u32, u32)>,
-}
-
-struct Connection {
-    name: String,
-    events: Vec<Event>,
-    vectors: Vec<Vector>,
-}
-
-fn event(line: &str) -> Option<Event> {
-    let mut words = line.split_whitespace().skip(1);
-    let (kind, sequence) = (words.next()?, words.next()?);
-    let sequence = || u32::from_str_radix(sequence, 16).ok();
-    match kind {
-        "data" => sequence().map(Event::Data),
-        "ack" => sequence().map(Event::Ack),
-        "taken" => sequence().map(Event::Taken),
-        _ => None,
-    }
 }
 
 /// A line of ack-vectors.txt: the connection's name, and the vector.
@@ -96,21 +62,10 @@ fn vector(line: &str) -> Option<(&str, Vector)> {
     Some((name, Vector { first: first.parse().ok()?, number: number.parse().ok()?, given_up: class == "givenup", received }))
 }
 
+type Connection = traffic::Connection<Vector>;
+
 fn connections(folder: &str) -> Result<Vec<Connection>, String> {
-    let read = |file: &str| fs::read_to_string(format!("{folder}/{file}")).map_err(|why| format!("{file}: {why}"));
-    let told = read("ack-vectors.txt")?;
-    let lines = told.lines().filter(|line| !line.starts_with('#'));
-    let mut connections: Vec<Connection> = Vec::new();
-    for line in lines {
-        let (name, vector) = vector(line).ok_or_else(|| format!("ack-vectors.txt: {line}"))?;
-        if connections.last().is_none_or(|last| last.name != name) {
-            let arrivals = read(&format!("arrivals-{name}.txt"))?;
-            let events = arrivals.lines().filter(|line| !line.starts_with('#')).filter_map(event).collect();
-            connections.push(Connection { name: name.to_string(), events, vectors: Vec::new() });
-        }
-        connections.last_mut().expect("one was pushed").vectors.push(vector);
-    }
-    Ok(connections)
+    traffic::connections(folder, "ack-vectors.txt", vector)
 }
 
 #[derive(Default)]
@@ -191,9 +146,10 @@ impl Connection {
     /// The events in their order. Values stay, or the front is taken for what each ACK covers.
     fn run(&self, random: &mut Random, counts: &mut Counts, taking: bool) -> Result<(), String> {
         let mut both = Both::new(random, counts, self.first())?;
-        for &event in &self.events {
+        for event in &self.events {
             let ahead = |sequence: u32, both: &Both| distance(both.base(), sequence) < LAST / 2;
-            match event {
+            match *event {
+                Event::Nak(_) => (),
                 // A receiver that has taken the front inserts nothing before it.
                 Event::Data(sequence) if taking && !ahead(sequence, &both) => (),
                 Event::Data(sequence) => both.insert(sequence)?,
@@ -216,7 +172,7 @@ impl Connection {
 
     /// The ACKs of the events are those of the vectors.
     fn same_acks(&self) -> Result<(), String> {
-        let acks = self.events.iter().filter_map(|&event| if let Event::Ack(number) = event { Some(number) } else { None });
+        let acks = self.events.iter().filter_map(|event| if let Event::Ack(number) = event { Some(*number) } else { None });
         if acks.eq(self.vectors.iter().map(|vector| vector.number)) {
             return Ok(());
         }
@@ -279,9 +235,9 @@ enum Wrong {
 impl Wrong {
     fn of(self, mut connection: Connection) -> Result<Connection, String> {
         let number = connection.vectors[0].number;
-        let at = connection.events.iter().position(|&event| event == Event::Ack(number)).ok_or("no ACK")?;
+        let at = connection.events.iter().position(|event| *event == Event::Ack(number)).ok_or("no ACK")?;
         match self {
-            Wrong::LeftOut => connection.events.retain(|&event| event != Event::Data(add(number, LAST))),
+            Wrong::LeftOut => connection.events.retain(|event| *event != Event::Data(add(number, LAST))),
             Wrong::TooEarly => connection.events.insert(at, Event::Data(number)),
             Wrong::AnotherNumber => connection.events[at] = Event::Ack(add(number, 1)),
             Wrong::AnotherBase => connection.vectors[0].first = add(connection.vectors[0].first, LAST),
@@ -316,10 +272,5 @@ fn run(arguments: &[String]) -> Result<String, String> {
 
 fn main() -> ExitCode {
     let arguments: Vec<String> = std::env::args().skip(1).collect();
-    let (said, status) = match run(&arguments) {
-        Ok(said) => (said, ExitCode::SUCCESS),
-        Err(why) => (why, ExitCode::FAILURE),
-    };
-    println!("{said}");
-    status
+    ended(run(&arguments))
 }

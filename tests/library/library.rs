@@ -33,7 +33,7 @@ const SHORT_MEMORY: u32 = 6;
 const LARGE_NUMBER: u32 = 8;
 pub const LARGEST_BUDGET: u32 = 256;
 
-fn numbered(code: u32, first: u32) -> NumberedAnswer {
+pub fn numbered(code: u32, first: u32) -> NumberedAnswer {
     NumberedAnswer {
         code,
         first,
@@ -78,6 +78,14 @@ fn with_list(call: Call) -> bool {
     }
 }
 
+/// A call of the loss report, with the lists that it is lent besides the window's.
+pub enum Report<'l> {
+    /// The list to write.
+    Write(&'l mut [u32]),
+    /// The list to read, the bytes to write.
+    Read(&'l [u32], &'l mut [u8]),
+}
+
 /// The lent memory, with room past the named lengths.
 #[derive(Clone, PartialEq, Eq)]
 struct Lists {
@@ -108,6 +116,16 @@ impl Lengths {
             words: [3 * pages, 3 * pages.div_ceil(64)],
             returned: RETURNED,
         }
+    }
+
+    /// With one list one short, the last of them the return list.
+    fn shortened(mut self, list: u32) -> Self {
+        match list {
+            0..=1 => self.cells[list as usize] -= 1,
+            2..=3 => self.words[list as usize - 2] -= 1,
+            _ => self.returned -= 1,
+        }
+        self
     }
 }
 
@@ -224,12 +242,7 @@ impl Library {
 
     /// With one list one short: refusal 6, and nothing is written.
     pub fn short(&mut self, random: &mut Random, call: Call, host: bool) -> Result<(), String> {
-        let mut lengths = self.lengths;
-        match random.below(if with_list(call) { 5 } else { 4 }) {
-            list @ 0..=1 => lengths.cells[list as usize] -= 1,
-            list @ 2..=3 => lengths.words[list as usize - 2] -= 1,
-            _ => lengths.returned -= 1,
-        }
+        let lengths = self.lengths.shortened(random.below(if with_list(call) { 5 } else { 4 }));
         self.refuses(lengths, call, host, SHORT_MEMORY)
     }
 
@@ -241,6 +254,30 @@ impl Library {
             return Err(format!("{:?}, due is refusal {refusal}, with nothing altered", step.answer));
         }
         Ok(())
+    }
+
+    /// What a loss report of first to last answers, with one list of the window one short if `short` says so. It must alter nothing of
+    /// the window.
+    pub fn report(&mut self, report: Report, first: u32, last: u32, short: Option<u32>) -> Result<NumberedAnswer, String> {
+        let before = self.lists.clone();
+        let lengths = short.map_or(self.lengths, |list| self.lengths.shortened(list));
+        let (w, Lengths { cells: [sl, vl], words: [pl, bl], .. }) = (self.header, lengths);
+        let Lists { sequences: s, values: v, pages: p, blocks: b, .. } = &mut self.lists;
+        let (s, v, p, b) = (s.as_mut_ptr(), v.as_mut_ptr(), p.as_mut_ptr(), b.as_mut_ptr());
+        let step = unsafe {
+            match report {
+                Report::Write(words) => {
+                    packet_window_write_losses(w, s, sl, v, vl, p, pl, b, bl, words.as_mut_ptr(), words.len(), first, last)
+                }
+                Report::Read(words, lost) => packet_window_read_losses(
+                    w, s, sl, v, vl, p, pl, b, bl, words.as_ptr(), words.len(), lost.as_mut_ptr(), lost.len(), first, last,
+                ),
+            }
+        };
+        if step.window != self.header || step.count != 0 || self.lists != before {
+            return Err(format!("a report of {first} to {last} altered the window, count {}", step.count));
+        }
+        Ok(step.answer)
     }
 
     /// A visit: the values that release_retired returns.

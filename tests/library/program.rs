@@ -21,7 +21,12 @@ fn asked(work: impl FnOnce(RangeInclusive<u64>, u32, Options) -> Result<String, 
 
 /// Prints what `work` says, and fails if it does.
 pub fn program(work: impl FnOnce(RangeInclusive<u64>, u32, Options) -> Result<String, String>) -> ExitCode {
-    let (said, status) = match asked(work) {
+    ended(asked(work))
+}
+
+/// Prints what is said, and fails if it is an error.
+pub fn ended(said: Result<String, String>) -> ExitCode {
+    let (said, status) = match said {
         Ok(said) => (said, ExitCode::SUCCESS),
         Err(why) => (why, ExitCode::FAILURE),
     };

@@ -4,7 +4,7 @@ use crate::contents::Kind;
 use crate::declared::NumberedStep;
 use crate::judge::refused;
 use crate::memory::{capacity, LARGEST_WINDOW};
-use crate::operations::{Call, OPERATIONS};
+use crate::operations::{Call, OPERATIONS, REFUSALS, SHORT_LIST};
 
 /// What the memory held when a list of calls began.
 #[derive(Debug, Clone, Copy, PartialEq, Eq)]
@@ -36,6 +36,9 @@ pub struct Counts {
     pub checked: u64,
     /// Calls on sound states that hold retired values.
     retired: u64,
+    /// Loss lists written on sound states, by their words, 0, 1, 2 and more; and those that did not fit.
+    written: [u64; 4],
+    short: u64,
     /// Calls by the capacity's exponent.
     windows: [u64; 17],
 }
@@ -43,9 +46,9 @@ pub struct Counts {
 impl Counts {
     pub fn new() -> Self {
         let calls = vec![vec![0; OPERATIONS.len()]; STARTS.len()];
-        let refusals = vec![vec![0; 11]; STARTS.len()];
+        let refusals = vec![vec![0; REFUSALS as usize + 1]; STARTS.len()];
         let answers = vec![[0; 8]; OPERATIONS.len()];
-        Self { calls, refusals, answers, checked: 0, retired: 0, windows: [0; 17] }
+        Self { calls, refusals, answers, checked: 0, retired: 0, written: [0; 4], short: 0, windows: [0; 17] }
     }
 
     pub fn total(&self) -> u64 {
@@ -60,9 +63,20 @@ impl Counts {
         if start == Start::Sound {
             self.answers[operation][step.answer.code as usize] += 1;
             self.retired += u64::from(call.header.retired_held > 0);
+            if call.operation.writes_losses() {
+                self.note_report(step);
+            }
         }
         let window_size = call.header.window_size.clamp(1, LARGEST_WINDOW);
         self.windows[capacity(window_size).ilog2() as usize] += 1;
+    }
+
+    fn note_report(&mut self, step: &NumberedStep) {
+        match refused(step.answer) {
+            None => self.written[step.answer.first.min(3) as usize] += 1,
+            Some(SHORT_LIST) => self.short += 1,
+            Some(_) => (),
+        }
     }
 
     /// A start, a call, a refusal or an answer that was never met.
@@ -77,9 +91,12 @@ impl Counts {
                 return Some(format!("no {} on memory {start}", OPERATIONS[operation].name));
             }
             let unsound = at != 0;
-            if let Some(number) = (1..=10).find(|&number| self.refusals[at][number] == 0 && (number != 7 || unsound)) {
+            if let Some(number) = (1..=REFUSALS as usize).find(|&number| self.refusals[at][number] == 0 && (number != 7 || unsound)) {
                 return Some(format!("no refusal {number} on memory {start}"));
             }
+        }
+        if self.short == 0 || self.written.contains(&0) {
+            return Some(format!("no loss list on a sound state of 0, 1, 2 or more words, or refused: {:?}, {}", self.written, self.short));
         }
         (self.retired == 0).then(|| "no sound state with retired values".to_string())
     }
@@ -91,7 +108,8 @@ impl Counts {
         for (row, (_, start)) in self.calls.iter().zip(STARTS) {
             println!("| {start} | {} | {} |", joined(row), row.iter().sum::<u64>());
         }
-        println!("\n| memory | taken | refused 1 | 2 | 3 | 4 | 5 | 6 | 7 | 8 | 9 | 10 |\n|---|---|---|---|---|---|---|---|---|---|---|---|");
+        let numbers: String = (2..=REFUSALS).map(|number| format!(" {number} |")).collect();
+        println!("\n| memory | taken | refused 1 |{numbers}\n|---|---|{}", "---|".repeat(REFUSALS as usize));
         for (row, (_, start)) in self.refusals.iter().zip(STARTS) {
             println!("| {start} | {} |", joined(row));
         }
@@ -103,6 +121,7 @@ impl Counts {
         for (power, calls) in self.windows.iter().enumerate().filter(|&(_, &calls)| calls > 0) {
             println!("| {} | {calls} |", 1 << power);
         }
-        println!("\n{} calls on sound states that hold retired values, {} states checked\n", self.retired, self.checked);
+        println!("\n{} calls on sound states that hold retired values, {} states checked", self.retired, self.checked);
+        println!("loss lists on sound states of 0, 1, 2 and more words: {:?}, and {} that did not fit\n", self.written, self.short);
     }
 }

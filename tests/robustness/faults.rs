@@ -1,9 +1,10 @@
 //! Calls that do what no call may: the harness must name each of them.
 
-use crate::declared::{Header, NumberedAnswer, NumberedStep, ABSENT, DONE, PAIR, REFUSED};
-use crate::memory::{Lent, BLOCKS, HEADER, PAGES, RETURNED, SEQUENCES, VALUES};
-use crate::operations::{range_count, Call, OCCUPIED, SEQUENCE, SHORT_MEMORY, UNSOUND};
+use crate::declared::{Header, NumberedAnswer, NumberedStep, ABSENT, DONE, FOUND, PAIR, REFUSED};
+use crate::memory::{Lent, BLOCKS, HEADER, LOST, PAGES, RETURNED, SEQUENCES, VALUES, WORDS};
+use crate::operations::{is_wide, Call, LOSS_LIST, OCCUPIED, RANGE_COUNT, SEQUENCE, SHORT_LIST, SHORT_MEMORY, UNSOUND};
 use crate::judge::refused;
+use std::ops::Not;
 use std::process::Command;
 
 /// A wrong end of a call, and what the report of it says.
@@ -21,7 +22,11 @@ fn refusal(number: u32) -> NumberedAnswer {
     NumberedAnswer { code: REFUSED, first: number, second: 0, third: 0, fourth: 0 }
 }
 
-/// Element `at` of a list of numbers, or of words.
+fn found(number: u32) -> NumberedAnswer {
+    NumberedAnswer { code: FOUND, first: number, second: 0, third: 0, fourth: 0 }
+}
+
+/// Element `at` of a list of numbers, of words, or of the bytes of losses.
 fn number(lent: &Lent, list: usize, at: isize) -> *mut u32 {
     unsafe { lent.starts[list].cast::<u32>().offset(at) }
 }
@@ -30,13 +35,26 @@ fn word(lent: &Lent, list: usize, at: isize) -> *mut u64 {
     unsafe { lent.starts[list].cast::<u64>().offset(at) }
 }
 
-fn changed(place: *mut u32) {
+fn byte(lent: &Lent, at: isize) -> *mut u8 {
+    unsafe { lent.starts[LOST].offset(at) }
+}
+
+fn changed<T: Not<Output = T>>(place: *mut T) {
     unsafe { place.write_volatile(!place.read_volatile()) }
 }
 
 /// Whether the arguments of a call of that name do not refuse it.
 fn taken(call: &Call, name: &str) -> bool {
     call.operation.name == name && call.refusal().is_none()
+}
+
+/// Whether a loss list was written, or read.
+fn written(call: &Call, step: &NumberedStep) -> bool {
+    call.operation.writes_losses() && step.answer.code == FOUND
+}
+
+fn read(call: &Call, step: &NumberedStep) -> bool {
+    call.operation.reads_losses() && step.answer.code == FOUND
 }
 
 macro_rules! fault {
@@ -62,17 +80,17 @@ pub static FAULTS: &[Fault] = &[
     }),
     fault!("writes-before-the-blocks", WRITTEN, |call, lent, step| {
         if taken(call, "clear") {
-            changed(word(lent, BLOCKS, -1).cast());
+            changed(word(lent, BLOCKS, -1));
         }
     }),
     fault!("writes-past-the-header", WRITTEN, |call, lent, step| {
         if call.operation.by_start() {
-            changed(word(lent, HEADER, lent.lengths[HEADER] as isize).cast());
+            changed(word(lent, HEADER, lent.lengths[HEADER] as isize));
         }
     }),
     fault!("writes-the-header-when-refused", "the header changed outside its first 0", |call, lent, step| {
         if call.operation.by_start() && call.refusal().is_some() {
-            changed(word(lent, HEADER, 0).cast());
+            changed(word(lent, HEADER, 0));
         }
     }),
     fault!("writes-what-it-reads", OUTSIDE, |call, lent, step| {
@@ -93,7 +111,7 @@ pub static FAULTS: &[Fault] = &[
     fault!("writes-past-the-named-length", "pages changed outside its first", |call, lent, step| {
         let named = call.named()[PAGES];
         if taken(call, "remove") && named < lent.lengths[PAGES] {
-            changed(word(lent, PAGES, named as isize).cast());
+            changed(word(lent, PAGES, named as isize));
         }
     }),
     fault!("writes-past-the-count", "returned changed outside its first", |call, lent, step| {
@@ -132,7 +150,7 @@ pub static FAULTS: &[Fault] = &[
         }
     }),
     fault!("refusal-0", "answers NumberedAnswer { code: 7, first: 0", |call, lent, step| step.answer = refusal(0)),
-    fault!("refusal-11", "answers NumberedAnswer { code: 7, first: 11", |call, lent, step| step.answer = refusal(11)),
+    fault!("refusal-13", "answers NumberedAnswer { code: 7, first: 13", |call, lent, step| step.answer = refusal(13)),
     fault!("refuses-6-what-it-takes", "refuses Some(6)", |call, lent, step| {
         if taken(call, "exchange") {
             step.answer = refusal(SHORT_MEMORY);
@@ -150,7 +168,7 @@ pub static FAULTS: &[Fault] = &[
     }),
     fault!("takes-what-it-refuses", "not refusal Some(", |call, lent, step| {
         if call.operation.name == "clear_bounded" && call.refusal().is_some() {
-            step.answer = NumberedAnswer { code: 4, first: 0, second: 0, third: 0, fourth: 0 };
+            step.answer = found(0);
         }
     }),
     fault!("refuses-in-another-order", "not refusal Some(", |call, lent, step| {
@@ -164,8 +182,8 @@ pub static FAULTS: &[Fault] = &[
         }
     }),
     fault!("refuses-5-before-10", "not refusal Some(10)", |call, lent, step| {
-        if call.refusal() == Some(SEQUENCE) && range_count(call.numbers[0], call.numbers[1]) > call.header.window_size {
-            step.answer = refusal(5);
+        if call.refusal() == Some(SEQUENCE) && call.range_count() > call.header.window_size {
+            step.answer = refusal(RANGE_COUNT);
         }
     }),
     fault!("another-header-when-refused", "header Header", |call, lent, step| {
@@ -219,9 +237,89 @@ pub static FAULTS: &[Fault] = &[
             step.window.retired_held -= 1;
         }
     }),
+    fault!("reads-past-the-words", OUTSIDE, |call, lent, step| {
+        if read(call, step) {
+            unsafe { number(lent, WORDS, lent.lengths[WORDS] as isize).read_volatile() };
+        }
+    }),
+    fault!("writes-a-word-too-many", "words changed outside its first", |call, lent, step| {
+        if written(call, step) && (step.answer.first as usize) < lent.lengths[WORDS] {
+            changed(number(lent, WORDS, step.answer.first as isize));
+        }
+    }),
+    fault!("writes-words-that-do-not-fit", WRITTEN, |call, lent, step| {
+        if call.operation.writes_losses() && refused(step.answer) == Some(SHORT_LIST) && lent.lengths[WORDS] > 0 {
+            changed(number(lent, WORDS, 0));
+        }
+    }),
+    fault!("writes-a-byte-too-many", "lost changed outside its first", |call, lent, step| {
+        if read(call, step) && (call.range_count() as usize) < lent.lengths[LOST] {
+            changed(byte(lent, call.range_count() as isize));
+        }
+    }),
+    fault!("writes-a-byte-of-a-wrong-list", OUTSIDE, |call, lent, step| {
+        if refused(step.answer) == Some(LOSS_LIST) {
+            changed(byte(lent, 0));
+        }
+    }),
+    fault!("a-report-that-writes-the-window", OUTSIDE, |call, lent, step| {
+        if written(call, step) {
+            changed(number(lent, SEQUENCES, 0));
+        }
+    }),
+    fault!("a-report-with-another-header", "header Header", |call, lent, step| {
+        if read(call, step) {
+            step.window.len ^= 1;
+        }
+    }),
+    fault!("a-report-with-another-word", "reports other losses", |call, lent, step| {
+        if written(call, step) && step.answer.first > 0 {
+            changed(number(lent, WORDS, 0));
+        }
+    }),
+    fault!("a-report-with-another-byte", "reports other losses", |call, lent, step| {
+        if read(call, step) {
+            changed(byte(lent, 0));
+        }
+    }),
+    fault!("one-loss-too-many", "reports other losses", |call, lent, step| {
+        if read(call, step) {
+            step.answer.first += 1;
+        }
+    }),
+    fault!("refuses-11-what-fits", "refuses Some(11) on a sound state", |call, lent, step| {
+        if written(call, step) && step.answer.first as usize == lent.lengths[WORDS] {
+            step.answer = refusal(SHORT_LIST);
+        }
+    }),
+    fault!("refuses-11-before-5", "not refusal Some(5)", |call, lent, step| {
+        if call.operation.is_report() && call.refusal() == Some(RANGE_COUNT) {
+            step.answer = refusal(SHORT_LIST);
+        }
+    }),
+    fault!("refuses-12-before-11", "not refusal Some(11)", |call, lent, step| {
+        if call.refusal() == Some(SHORT_LIST) {
+            step.answer = refusal(LOSS_LIST);
+        }
+    }),
+    fault!("takes-a-wrong-list", "not refusal Some(12)", |call, lent, step| {
+        if refused(step.answer) == Some(LOSS_LIST) {
+            step.answer = found(0);
+        }
+    }),
+    fault!("refuses-12-a-right-list", "refuses Some(12)", |call, lent, step| {
+        if read(call, step) {
+            step.answer = refusal(LOSS_LIST);
+        }
+    }),
+    fault!("refuses-7-a-report", "refuses Some(7) on arguments that are taken", |call, lent, step| {
+        if written(call, step) && is_wide(call.header.base) {
+            step.answer = refusal(UNSOUND);
+        }
+    }),
     fault!("words-left-by-new", "words are left", |call, lent, step| {
         if taken(call, "new") {
-            changed(word(lent, BLOCKS, 0).cast());
+            changed(word(lent, BLOCKS, 0));
         }
     }),
 ];

@@ -119,34 +119,40 @@ impl List {
         unsafe { std::slice::from_raw_parts_mut(self.mapping.writable.cast(), self.mapping.bytes / 8) }
     }
 
-    fn part<T>(&self, from: *const u8) -> &[T] {
+    fn part<T>(&self, from: *const u8, count: usize) -> &[T] {
         assert!(self.element == size_of::<T>());
-        unsafe { std::slice::from_raw_parts(from.add(self.offset(self.count)).cast(), self.count) }
+        unsafe { std::slice::from_raw_parts(from.add(self.offset(count)).cast(), count) }
     }
 
-    pub fn words_now(&self) -> &[u64] {
-        self.part(self.mapping.readable)
+    /// The list as it is now, lent with `count` elements.
+    pub fn now<T>(&self, count: usize) -> &[T] {
+        self.part(self.mapping.readable, count)
     }
 
     pub fn numbers_before(&self) -> &[u32] {
-        self.part(self.before.as_ptr().cast())
+        self.part(self.before.as_ptr().cast(), self.count)
     }
 
     pub fn words_before(&self) -> &[u64] {
-        self.part(self.before.as_ptr().cast())
+        self.part(self.before.as_ptr().cast(), self.count)
     }
 
-    fn part_mut<T>(&mut self) -> &mut [T] {
+    fn part_mut<T>(&mut self, count: usize) -> &mut [T] {
         assert!(self.element == size_of::<T>());
-        unsafe { std::slice::from_raw_parts_mut(self.lent(self.count, true).cast(), self.count) }
+        unsafe { std::slice::from_raw_parts_mut(self.lent(count, true).cast(), count) }
     }
 
     pub fn numbers(&mut self) -> &mut [u32] {
-        self.part_mut()
+        self.part_mut(self.count)
     }
 
     pub fn words(&mut self) -> &mut [u64] {
-        self.part_mut()
+        self.part_mut(self.count)
+    }
+
+    /// These numbers are the whole list, lent with so many elements.
+    pub fn put(&mut self, numbers: &[u32]) {
+        self.part_mut(numbers.len()).copy_from_slice(numbers);
     }
 
     /// The state before the next call is the one now.
@@ -155,11 +161,11 @@ impl List {
         self.before.copy_from_slice(now);
     }
 
-    /// Whether the mapping is as it was before the call, but for the first `free` elements of the list.
-    pub fn unaltered_past(&self, free: usize) -> bool {
+    /// Whether the mapping is as it was before the call, but for the first `free` elements of the list, lent with `count`.
+    pub fn unaltered_past(&self, count: usize, free: usize) -> bool {
         let bytes = |from: *const u8| unsafe { std::slice::from_raw_parts(from, self.mapping.bytes) };
         let (now, before) = (bytes(self.mapping.readable), bytes(self.before.as_ptr().cast()));
-        let start = self.offset(self.count);
+        let start = self.offset(count);
         let end = start + self.element * free;
         now[..start] == before[..start] && now[end..] == before[end..]
     }

@@ -20,10 +20,15 @@ mod judge;
 #[allow(dead_code)]
 #[path = "../../oracle/src/line.rs"]
 mod line;
+#[path = "../../oracle/src/lists.rs"]
+mod lists;
+#[path = "../../oracle/src/losses.rs"]
+mod losses;
 mod memory;
 mod operations;
 #[path = "../library/reads.rs"]
 mod reads;
+mod reports;
 #[path = "../library/sigaction.rs"]
 mod sigaction;
 mod signals;
@@ -35,18 +40,20 @@ use arguments::{with_a_short_list, with_a_wrong_header, Arguments};
 use calls::Random;
 use contents::{break_one_clause, change, copy_about, fill, fill_around, state_before};
 use counts::{Counts, Start, STARTS};
-use declared::{Header, NumberedStep};
+use declared::{Header, NumberedStep, FOUND};
 use faults::Fault;
 use guarded::Mappings;
 use judge::{refused, Made};
-use memory::{Memory, BLOCKS, HEADER, LISTS, PAGES, RETURNED, SEQUENCES, VALUES};
+use memory::{Memory, BLOCKS, HEADER, LOST, PAGES, RETURNED, SEQUENCES, VALUES, WORDS};
 use operations::{Call, OCCUPIED, UNSOUND};
+use reports::{with_list, with_places, Due};
 use signals::{again, watched, Named};
 use std::process::ExitCode;
 
-const EVERY_LIST: [usize; LISTS] = [SEQUENCES, VALUES, PAGES, BLOCKS, RETURNED, HEADER];
+/// The lists of a window, with the return list and the header.
+const WINDOW_LISTS: [usize; 6] = [SEQUENCES, VALUES, PAGES, BLOCKS, RETURNED, HEADER];
 
-/// A copy of header and lists.
+/// A copy of header and lists of a window.
 struct Saved {
     header: Header,
     lists: Vec<Vec<u64>>,
@@ -78,6 +85,7 @@ impl<'a> List<'a> {
         let arguments = Arguments::new(&mut random);
         let mut list = Self { seed, number: 0, random, arguments, memory, start: Start::Sound, fault, counts };
         fill_around(&mut list.random, &mut list.memory);
+        list.memory.remember(&[WORDS, LOST]);
         list.memory.header = Header { window_size, n: 1, demote_at: 0, ..Header::default() };
         list
     }
@@ -102,9 +110,36 @@ impl<'a> List<'a> {
         })
     }
 
-    /// The call made; what it left is judged and is the memory of the next one.
+    /// Whether the library's get finds the sequence, on the state as it is.
+    fn is_live(&self, sequence: u32) -> bool {
+        let operation = operations::find("get").expect("get is a call");
+        let lent = self.memory.lent(self.memory.lengths(), &[]);
+        (operation.make)(self.memory.header, &lent, [sequence, 0, 0]).answer.code == FOUND
+    }
+
+    /// What a loss report must give.
+    fn due(&self, call: &Call) -> Due {
+        let [first, last, _] = call.numbers;
+        if call.refusal().is_some() {
+            Due::Open
+        } else if call.operation.reads_losses() {
+            reports::read(call, &self.memory)
+        } else if call.operation.writes_losses() && self.start == Start::Sound {
+            let lost = losses::lost(call.header.window_size, first, last, |sequence| self.is_live(sequence));
+            Due::Words(losses::words(first, &lost.expect("a range that is not refused")))
+        } else {
+            Due::Open
+        }
+    }
+
     fn call(&mut self, call: &Call) -> Result<(), String> {
-        let refusal = call.refusal();
+        let due = self.due(call);
+        self.call_due(call, &due)
+    }
+
+    /// The call made; what it left is judged and is the memory of the next one.
+    fn call_due(&mut self, call: &Call, due: &Due) -> Result<(), String> {
+        let refusal = call.refusal().or_else(|| due.refusal(call));
         // A host form writes the header back even if it is as it came.
         let writable = if refusal.is_none() { call.operation.writes } else { &[HEADER] };
         if call.operation.by_start() {
@@ -113,7 +148,7 @@ impl<'a> List<'a> {
         self.number += 1;
         let step = self.make(call, writable);
         let sound = self.was_sound(call, &step);
-        let made = Made { call, step: &step, memory: &self.memory, sound };
+        let made = Made { call, step: &step, memory: &self.memory, sound, due, refusal };
         made.judge().map_err(|why| format!("{why} in {}", Named(call)))?;
         self.counts.note(self.start, call, &step);
         if refusal.is_none() {
@@ -148,18 +183,24 @@ impl<'a> List<'a> {
             1 => with_a_wrong_header(&mut self.random, call),
             _ => *call,
         };
+        if call.operation.writes_losses() {
+            let due = self.due(&call);
+            let call = with_places(&mut self.random, &call, &due);
+            return self.call_due(&call, &due);
+        }
+        let call = if call.operation.reads_losses() { with_list(&mut self.random, &call, &mut self.memory) } else { call };
         self.call(&call)
     }
 
     fn save(&mut self) -> Saved {
-        let lists = self.memory.lists.iter_mut().map(|list| list.whole().to_vec()).collect();
+        let lists = WINDOW_LISTS.map(|list| self.memory.lists[list].whole().to_vec()).into();
         Saved { header: self.memory.header, lists }
     }
 
     fn restore(&mut self, saved: &Saved) {
         self.memory.header = saved.header;
-        for (list, words) in self.memory.lists.iter_mut().zip(&saved.lists) {
-            list.whole().copy_from_slice(words);
+        for (list, words) in WINDOW_LISTS.into_iter().zip(&saved.lists) {
+            self.memory.lists[list].whole().copy_from_slice(words);
         }
     }
 
@@ -172,7 +213,7 @@ impl<'a> List<'a> {
     fn renew(&mut self) -> Result<(), String> {
         let n = self.random.pick(&[1, 2, 3, 8, 16, 32, 63]);
         let demote_at = self.random.below(n + 1);
-        self.memory.remember(&EVERY_LIST);
+        self.memory.remember(&WINDOW_LISTS);
         self.call_named("new", [self.memory.header.window_size, n, demote_at])
     }
 
@@ -198,7 +239,7 @@ impl<'a> List<'a> {
     /// Memory that is not sound, of one start; from a sound state if it needs one.
     fn spoil(&mut self, start: Start, saved: &Saved) {
         self.restore(saved);
-        self.memory.remember(&EVERY_LIST);
+        self.memory.remember(&WINDOW_LISTS);
         self.start = start;
         match start {
             Start::Random(kind) => fill(&mut self.random, &mut self.memory, kind),
@@ -207,7 +248,7 @@ impl<'a> List<'a> {
             Start::Damaged => change(&mut self.random, &mut self.memory),
             Start::Sound => (),
         }
-        self.memory.remember(&EVERY_LIST);
+        self.memory.remember(&WINDOW_LISTS);
     }
 
     /// Calls on memory that is spoiled at first, after an accepted new, and now and then.

@@ -5,7 +5,8 @@ use crate::calls::Random;
 use crate::declared::*;
 use crate::guarded::Mappings;
 use crate::ledger::Ledger;
-use crate::memory::{capacity, Memory, RETURNED};
+use crate::losses;
+use crate::memory::{capacity, Memory, LISTS, LOST, RETURNED, WORDS};
 use crate::operations::*;
 use crate::reads::reads_due;
 use crate::signals::watched;
@@ -31,6 +32,12 @@ pub enum Fault {
     StillPoint,
     /// Taking the front leaves the base.
     StillBase,
+    /// The last word of a loss list is not told.
+    WordLess,
+    /// A loss list has another word.
+    OtherWord,
+    /// A loss is read as none, or none as a loss.
+    OtherByte,
 }
 
 crate::counted! {
@@ -57,6 +64,11 @@ crate::counted! {
         emptied_by_halves: "times that visits by the halves of their budgets left none retired",
         listed: "pairs listed by iter and compared",
         strangers: "answers of stranger with a pair",
+        reports: "loss reports written and read back",
+        reported: "losses in them",
+        report_words: "words in them",
+        reports_refused: "loss reports refused 5",
+        reports_short: "loss reports refused 11",
         checked: "states checked",
         promotions: "promotions",
         demotions: "demotions",
@@ -112,10 +124,17 @@ impl Head {
         demand(answer.code == DONE, || format!("new {window:?} answers {answer:?}"))
     }
 
-    fn end_wrongly(&mut self, name: &str, step: &mut NumberedStep) {
+    fn end_wrongly(&mut self, call: &Call, step: &mut NumberedStep) {
+        if self.fault.is_none() {
+            return;
+        }
+        let lent = self.memory.lent(call.lengths, call.operation.writes);
         let returned = self.memory.lists[RETURNED].numbers();
         let count = step.count as usize;
+        let name = call.operation.call();
         let removed = name == "remove" && step.answer.code == FOUND;
+        let written = name == "write_losses" && step.answer.code == FOUND && step.answer.first > 0;
+        let read = name == "read_losses" && step.answer.code == FOUND;
         match self.fault {
             Some(Fault::Twice) if 0 < count && count < returned.len() => {
                 returned[count] = returned[0];
@@ -130,6 +149,9 @@ impl Head {
             Some(Fault::NoneHeld) => step.window.retired_held = 0,
             Some(Fault::StillPoint) => step.window.point = self.memory.header.point,
             Some(Fault::StillBase) if name == "take_front" => step.window.base = self.memory.header.base,
+            Some(Fault::WordLess) if written => step.answer.first -= 1,
+            Some(Fault::OtherWord) if written => unsafe { *lent.starts[WORDS].cast::<u32>() ^= 1 },
+            Some(Fault::OtherByte) if read => unsafe { *lent.starts[LOST] ^= 1 },
             _ => (),
         }
     }
@@ -145,14 +167,19 @@ impl Head {
         let lent = self.memory.lent(call.lengths, call.operation.writes);
         let run = || (call.operation.make)(call.header, &lent, call.numbers);
         let mut step = watched(self.seed, self.tally.calls, call, &self.memory, run);
-        self.end_wrongly(call.operation.call(), &mut step);
+        self.end_wrongly(call, &mut step);
         step
     }
 
-    /// One call; the stores of its return list are entered in the ledger as released, and the header's counts compared.
+    /// One call on the whole lists.
     fn make(&mut self, name: &str, numbers: [u32; 3]) -> Result<NumberedAnswer, String> {
+        self.make_lent(name, numbers, self.memory.lengths())
+    }
+
+    /// One call; the stores of its return list are entered in the ledger as released, and the header's counts compared.
+    fn make_lent(&mut self, name: &str, numbers: [u32; 3], lengths: [usize; LISTS]) -> Result<NumberedAnswer, String> {
         let operation = form(name, self.by_start).ok_or_else(|| format!("{name} is not in the library"))?;
-        let call = Call { operation, header: self.memory.header, lengths: self.memory.lengths(), numbers };
+        let call = Call { operation, header: self.memory.header, lengths, numbers };
         self.tally.calls += 1;
         self.tally.hosted += u64::from(operation.by_start());
         let step = self.step(&call);
@@ -414,6 +441,51 @@ impl Head {
         let given = self.store_of(answer.first) == Some(answer.second) && self.is_stranger(answer.first, first, count);
         self.tally.strangers += u64::from(!none);
         demand(if none { answer.code == ABSENT } else { answer.code == PAIR && given }, wrong)
+    }
+
+    /// The loss report of a range, in a list with a place too few and then in one that is long enough: its words are those of the table's
+    /// losses, and read back they are these losses.
+    pub fn report(&mut self, random: &mut Random, first: u32, last: u32) -> Result<(), String> {
+        let lost = losses::lost(self.window_size(), first, last, |sequence| self.store_of(sequence).is_some());
+        let Ok(lost) = lost else {
+            self.tally.reports_refused += 1;
+            self.reports("write_losses", first, last, self.memory.lengths(), (REFUSED, RANGE_COUNT))?;
+            return self.reports("read_losses", first, last, self.memory.lengths(), (REFUSED, RANGE_COUNT));
+        };
+        let words = losses::words(first, &lost);
+        let mut lengths = self.memory.lengths();
+        if !words.is_empty() && random.percent(50) {
+            lengths[WORDS] = words.len() - 1;
+            self.tally.reports_short += 1;
+            self.reports("write_losses", first, last, lengths, (REFUSED, SHORT_LIST))?;
+        }
+        lengths[WORDS] = random.pick(&[words.len(), self.memory.lists[WORDS].count()]);
+        self.reports("write_losses", first, last, lengths, (FOUND, words.len() as u32))?;
+        let written = &self.memory.lists[WORDS].now::<u32>(lengths[WORDS])[..words.len()];
+        demand(written == words, || format!("write_losses {first} {last} writes {written:?}, not {words:?}"))?;
+        self.read_report(first, last, &words, &lost)
+    }
+
+    fn read_report(&mut self, first: u32, last: u32, words: &[u32], lost: &[bool]) -> Result<(), String> {
+        let count = lost.iter().filter(|&&lost| lost).count();
+        let mut lengths = self.memory.lengths();
+        (lengths[WORDS], lengths[LOST]) = (words.len(), lost.len());
+        self.memory.lists[WORDS].put(words);
+        self.reports("read_losses", first, last, lengths, (FOUND, count as u32))?;
+        let bytes = self.memory.lists[LOST].now::<u8>(lost.len());
+        let told = bytes.iter().map(|&byte| u32::from(byte)).eq(lost.iter().map(|&lost| u32::from(lost)));
+        self.tally.reports += 1;
+        self.tally.reported += count as u64;
+        self.tally.report_words += words.len() as u64;
+        demand(told, || format!("read_losses {first} {last} of {words:?} writes {bytes:?}"))
+    }
+
+    /// A loss report answers so, and changes nothing.
+    fn reports(&mut self, name: &str, first: u32, last: u32, lengths: [usize; LISTS], wanted: (u32, u32)) -> Result<(), String> {
+        let header = self.memory.header;
+        let answer = self.make_lent(name, [first, last, 0], lengths)?;
+        let right = (answer.code, answer.first) == wanted && self.memory.header == header;
+        demand(right, || format!("{name} {first} {last} answers {answer:?}, not {wanted:?}"))
     }
 
     /// check says that the state is sound.

@@ -1,9 +1,10 @@
 //! What a call must keep to, on any memory.
 
 use crate::declared::*;
-use crate::memory::{capacity, Memory, BLOCKS, NAMES, PAGES, RETURNED};
+use crate::memory::{capacity, most_words, Memory, BLOCKS, LOST, NAMES, PAGES, RETURNED, WORDS};
 use crate::operations::*;
 use crate::reads::reads_due;
+use crate::reports::{is_list, Due};
 
 /// How many numbers an answer has, by its code; iter's reads, the fourth, are not counted.
 const USED: [usize; 8] = [0, 0, 1, 0, 1, 3, 2, 1];
@@ -15,6 +16,10 @@ pub struct Made<'a> {
     pub memory: &'a Memory,
     /// The state before the call was sound.
     pub sound: bool,
+    /// What a loss report must give.
+    pub due: &'a Due,
+    /// The refusal that is known before the call.
+    pub refusal: Option<u32>,
 }
 
 pub fn refused(answer: NumberedAnswer) -> Option<u32> {
@@ -34,11 +39,11 @@ impl Made<'_> {
         self.step.answer
     }
 
-    /// The code is one that the call has, or a refusal from 1 to 10; numbers that the code does not use are 0.
+    /// The code is one that the call has, or a refusal that there is; numbers that the code does not use are 0.
     fn readable(&self) -> Result<(), String> {
         let answer @ NumberedAnswer { code, first, second, third, fourth } = self.answer();
         let own = self.call.operation.codes.contains(&code);
-        demand(own || (code == REFUSED && (1..=10).contains(&first)), || format!("answers {answer:?}"))?;
+        demand(own || (code == REFUSED && (1..=REFUSALS).contains(&first)), || format!("answers {answer:?}"))?;
         let unused = &[first, second, third][USED[code as usize]..];
         demand(unused.iter().all(|&number| number == 0), || format!("answers {answer:?}, with numbers that are not used"))?;
         let due = self.reads();
@@ -55,16 +60,17 @@ impl Made<'_> {
         reads_due(capacity(self.call.header.window_size) as u32, self.call.numbers[0], found)
     }
 
-    /// The refusal that the arguments decide, and no other of theirs.
+    /// The refusal that is known before the call, and no other that would be.
     fn decided(&self) -> Result<(), String> {
-        let (wanted, given) = (self.call.refusal(), refused(self.answer()));
+        let (wanted, given) = (self.refusal, refused(self.answer()));
         if wanted.is_some() {
             return demand(given == wanted, || format!("answers {:?}, not refusal {wanted:?}", self.answer()));
         }
         let allowed = match given {
             None => true,
             Some(OCCUPIED) => self.call.operation.codes.contains(&NEW),
-            Some(UNSOUND) => !self.sound && !self.call.operation.is_new(),
+            Some(UNSOUND) => !self.sound && !self.call.operation.is_new() && !self.call.operation.is_report(),
+            Some(SHORT_LIST) => !self.sound && self.call.operation.writes_losses() && self.call.lengths[WORDS] < self.most_words(),
             Some(_) => false,
         };
         let state = if self.sound { "a sound state" } else { "arguments that are taken" };
@@ -73,10 +79,14 @@ impl Made<'_> {
         demand(self.sound || !passed, || "says that the state is sound, which it is not".to_string())
     }
 
-    /// Whether header and lists must be as they came.
-    fn keeps_all(&self) -> bool {
+    fn most_words(&self) -> usize {
+        most_words(self.call.range_count())
+    }
+
+    /// Whether header and lists of the window must be as they came.
+    fn keeps_window(&self) -> bool {
         let occupied = self.sound && refused(self.answer()) == Some(OCCUPIED);
-        self.call.refusal().is_some() || self.call.operation.only_reads() || occupied
+        self.refusal.is_some() || self.call.operation.keeps_window() || occupied
     }
 
     fn header(&self) -> Result<(), String> {
@@ -84,8 +94,8 @@ impl Made<'_> {
         let kept = if self.call.operation.is_new() {
             let [window_size, n, demote_at] = self.call.numbers;
             let fresh = Header { window_size, n, demote_at, ..Header::default() };
-            after == if self.call.refusal().is_some() { Header::default() } else { fresh }
-        } else if self.keeps_all() {
+            after == if self.refusal.is_some() { Header::default() } else { fresh }
+        } else if self.keeps_window() {
             after == before
         } else {
             let fixed = |header: Header| (header.window_size, header.n, header.demote_at);
@@ -116,30 +126,60 @@ impl Made<'_> {
 
     /// The first elements of a list that the call may have written.
     fn free(&self, list: usize) -> usize {
-        if self.keeps_all() || !self.call.operation.writes.contains(&list) {
-            0
-        } else if list == RETURNED {
-            self.step.count as usize
-        } else {
-            self.call.named()[list]
+        if !self.call.operation.writes.contains(&list) {
+            return 0;
+        }
+        match list {
+            WORDS | LOST => self.reported(),
+            _ if self.keeps_window() => 0,
+            RETURNED => self.step.count as usize,
+            _ => self.call.named()[list],
+        }
+    }
+
+    /// The words or bytes that a loss report has written.
+    fn reported(&self) -> usize {
+        match self.answer() {
+            answer if refused(answer).is_some() => 0,
+            answer if self.call.operation.writes_losses() => (answer.first as usize).min(self.call.lengths[WORDS]),
+            _ => self.call.range_count() as usize,
         }
     }
 
     fn lists(&self) -> Result<(), String> {
-        for (list, name) in NAMES.iter().enumerate() {
+        for (list, name) in NAMES.iter().enumerate().filter(|&(list, _)| self.call.operation.takes(list)) {
             let free = self.free(list);
-            demand(self.memory.lists[list].unaltered_past(free), || format!("{name} changed outside its first {free}"))?;
+            let unaltered = self.memory.lists[list].unaltered_past(self.call.lengths[list], free);
+            demand(unaltered, || format!("{name} changed outside its first {free}"))?;
         }
         Ok(())
     }
 
+    /// A loss report that was taken gives what is due; where that is not known, a list of some losses of its range.
+    fn report(&self) -> Result<(), String> {
+        if refused(self.answer()).is_some() || !self.call.operation.is_report() {
+            return Ok(());
+        }
+        let number = self.answer().first as usize;
+        let words = || &self.memory.lists[WORDS].now::<u32>(self.call.lengths[WORDS])[..self.reported()];
+        let right = match self.due {
+            Due::Words(due) => number == due.len() && words() == due,
+            Due::Lost(Some(due)) => {
+                let lost = &self.memory.lists[LOST].now::<u8>(self.call.lengths[LOST])[..due.len()];
+                number == due.iter().filter(|&&byte| byte == 1).count() && lost == due
+            }
+            _ => number <= self.most_words() && number == words().len() && is_list(self.call, words()),
+        };
+        demand(right, || format!("reports other losses, {number} in its answer"))
+    }
+
     /// An accepted new has emptied the page and block words.
     fn emptied(&self) -> Result<(), String> {
-        if !self.call.operation.is_new() || self.call.refusal().is_some() {
+        if !self.call.operation.is_new() || self.refusal.is_some() {
             return Ok(());
         }
         let named = self.call.named();
-        let empty = |list: usize| self.memory.lists[list].words_now()[..named[list]].iter().all(|&word| word == 0);
+        let empty = |list: usize| self.memory.lists[list].now::<u64>(self.call.lengths[list])[..named[list]].iter().all(|&word| word == 0);
         demand(empty(PAGES) && empty(BLOCKS), || "words are left that are not 0".to_string())
     }
 
@@ -176,7 +216,8 @@ impl Made<'_> {
         self.count()?;
         self.lists()?;
         self.emptied()?;
-        if self.sound && self.call.refusal().is_none() && refused(self.answer()).is_none() && !self.call.operation.is_new() {
+        self.report()?;
+        if self.sound && self.refusal.is_none() && refused(self.answer()).is_none() && !self.call.operation.is_new() {
             self.conserved()?;
             self.numbers()?;
         }

@@ -1,5 +1,5 @@
 //! A header and the five lists that a window is lent, between guard regions; the header too, as a list of words, for calls that take
-//! its start.
+//! its start; and the two lists of loss reports.
 
 use crate::calls::Random;
 use crate::declared::Header;
@@ -11,10 +11,12 @@ pub const PAGES: usize = 2;
 pub const BLOCKS: usize = 3;
 pub const RETURNED: usize = 4;
 pub const HEADER: usize = 5;
-pub const LISTS: usize = 6;
+pub const WORDS: usize = 6;
+pub const LOST: usize = 7;
+pub const LISTS: usize = 8;
 
-pub const NAMES: [&str; LISTS] = ["sequences", "values", "pages", "blocks", "returned", "the header"];
-const ELEMENT: [usize; LISTS] = [4, 4, 8, 8, 4, 8];
+pub const NAMES: [&str; LISTS] = ["sequences", "values", "pages", "blocks", "returned", "the header", "words", "lost"];
+const ELEMENT: [usize; LISTS] = [4, 4, 8, 8, 4, 8, 4, 1];
 
 pub const LARGEST_WINDOW: u32 = 65536;
 
@@ -22,11 +24,17 @@ pub fn capacity(window_size: u32) -> usize {
     (window_size as usize).max(64).next_power_of_two()
 }
 
-/// The lengths that document 01 names, for a window_size within the limits.
+/// The most words of the loss list of so many sequences.
+pub fn most_words(count: u32) -> usize {
+    (count - count / 3) as usize
+}
+
+/// The lengths that document 01 names, for a window_size within the limits; the lists of loss reports are long enough for any range.
 pub fn named(window_size: u32) -> [usize; LISTS] {
     let capacity = capacity(window_size);
     let pages = capacity / 64;
-    [capacity, capacity, 3 * pages, 3 * pages.div_ceil(64), 384, size_of::<Header>() / 8]
+    let header = size_of::<Header>() / 8;
+    [capacity, capacity, 3 * pages, 3 * pages.div_ceil(64), 384, header, most_words(capacity as u32), capacity]
 }
 
 /// The lists as a call is lent them.

@@ -1,7 +1,7 @@
 //! The calls of the static library, one line each, and which refusal the arguments of a call decide.
 
 use crate::declared::*;
-use crate::memory::{named, Lent, BLOCKS, HEADER, LARGEST_WINDOW, LISTS, PAGES, RETURNED, SEQUENCES, VALUES};
+use crate::memory::{named, Lent, BLOCKS, HEADER, LARGEST_WINDOW, LISTS, LOST, PAGES, RETURNED, SEQUENCES, VALUES, WORDS};
 
 pub const OCCUPIED: u32 = 4;
 pub const RANGE_COUNT: u32 = 5;
@@ -10,6 +10,10 @@ pub const UNSOUND: u32 = 7;
 pub const BUDGET: u32 = 8;
 pub const BASE: u32 = 9;
 pub const SEQUENCE: u32 = 10;
+pub const SHORT_LIST: u32 = 11;
+pub const LOSS_LIST: u32 = 12;
+/// The refusals are numbered from 1 to this.
+pub const REFUSALS: u32 = 12;
 
 pub const LARGEST_BUDGET: u32 = 256;
 
@@ -31,7 +35,7 @@ pub struct Operation {
     pub name: &'static str,
     pub make: fn(Header, &Lent, [u32; 3]) -> NumberedStep,
     pub numbers: Numbers,
-    /// The lists that it may write; with the return list, it takes one.
+    /// The lists that it may write; with the return list, it takes one, and with the bytes of losses a list of words to read.
     pub writes: &'static [usize],
     /// The codes that it answers with, but for a refusal.
     pub codes: &'static [u32],
@@ -63,14 +67,14 @@ macro_rules! plain {
     };
 }
 
-/// The same with a return list.
+/// The same with more lists.
 macro_rules! listed {
-    ($call:ident $(, $number:literal)*) => {
+    ($call:ident, [$($list:ident),*] $(, $number:literal)*) => {
         |w, m, _n| unsafe {
             $call(
                 w, m.starts[SEQUENCES].cast(), m.lengths[SEQUENCES], m.starts[VALUES].cast(), m.lengths[VALUES],
                 m.starts[PAGES].cast(), m.lengths[PAGES], m.starts[BLOCKS].cast(), m.lengths[BLOCKS],
-                m.starts[RETURNED].cast(), m.lengths[RETURNED], $(_n[$number]),*
+                $(m.starts[$list].cast(), m.lengths[$list],)* $(_n[$number]),*
             )
         }
     };
@@ -120,11 +124,13 @@ pub static OPERATIONS: &[Operation] = &[
     operation("remove", plain!(packet_window_remove, 0), Numbers::Sequence, WINDOW, &[ABSENT, FOUND]),
     operation("set_base", plain!(packet_window_set_base, 0), Numbers::Base, &[], &[DONE]),
     operation("take_front", plain!(packet_window_take_front), Numbers::None, WINDOW, &[ABSENT, FOUND]),
-    operation("insert", listed!(packet_window_insert, 0, 1), Numbers::SequenceAndValue, ALL, &[NEW, REPLACED]),
-    operation("remove_range", listed!(packet_window_remove_range, 0, 1), Numbers::Range, ALL, &[FOUND]),
-    operation("release_retired", listed!(packet_window_release_retired, 0), Numbers::Budget, RELEASING, &[RELEASED]),
-    operation("clear", listed!(packet_window_clear), Numbers::None, RELEASING, &[DONE]),
-    operation("clear_bounded", listed!(packet_window_clear_bounded, 0), Numbers::Budget, RELEASING, &[FOUND]),
+    operation("insert", listed!(packet_window_insert, [RETURNED], 0, 1), Numbers::SequenceAndValue, ALL, &[NEW, REPLACED]),
+    operation("remove_range", listed!(packet_window_remove_range, [RETURNED], 0, 1), Numbers::Range, ALL, &[FOUND]),
+    operation("release_retired", listed!(packet_window_release_retired, [RETURNED], 0), Numbers::Budget, RELEASING, &[RELEASED]),
+    operation("clear", listed!(packet_window_clear, [RETURNED]), Numbers::None, RELEASING, &[DONE]),
+    operation("clear_bounded", listed!(packet_window_clear_bounded, [RETURNED], 0), Numbers::Budget, RELEASING, &[FOUND]),
+    operation("write_losses", listed!(packet_window_write_losses, [WORDS], 0, 1), Numbers::Range, &[WORDS], &[FOUND]),
+    operation("read_losses", listed!(packet_window_read_losses, [WORDS, LOST], 0, 1), Numbers::Range, &[LOST], &[FOUND]),
     operation("host_insert", hosted!(packet_window_host_insert, [RETURNED], 0, 1), Numbers::SequenceAndValue, HOST_ALL, &[NEW, REPLACED]),
     operation("host_remove", hosted!(packet_window_host_remove, [], 0), Numbers::Sequence, HOST_WINDOW, &[ABSENT, FOUND]),
     operation("host_release_retired", hosted!(packet_window_host_release_retired, [RETURNED], 0), Numbers::Budget, HOST_RELEASING, &[RELEASED]),
@@ -164,9 +170,32 @@ impl Operation {
         self.name == "check"
     }
 
-    /// It takes no list to write, and leaves the header.
-    pub fn only_reads(&self) -> bool {
-        self.writes.is_empty() && self.numbers != Numbers::Base
+    /// It writes a loss list.
+    pub fn writes_losses(&self) -> bool {
+        self.writes.contains(&WORDS)
+    }
+
+    /// It reads a loss list.
+    pub fn reads_losses(&self) -> bool {
+        self.writes.contains(&LOST)
+    }
+
+    pub fn is_report(&self) -> bool {
+        self.writes_losses() || self.reads_losses()
+    }
+
+    /// Whether the list is one that calls of its kind are lent; those of loss reports are lent to these alone.
+    pub fn takes(&self, list: usize) -> bool {
+        match list {
+            WORDS => self.is_report(),
+            LOST => self.reads_losses(),
+            _ => true,
+        }
+    }
+
+    /// It writes no list of the window, and leaves the header.
+    pub fn keeps_window(&self) -> bool {
+        (self.writes.is_empty() || self.is_report()) && self.numbers != Numbers::Base
     }
 }
 
@@ -222,6 +251,16 @@ impl Call {
         }
     }
 
+    /// The sequences of its range.
+    pub fn range_count(&self) -> u32 {
+        range_count(self.numbers[0], self.numbers[1])
+    }
+
+    /// Whether a loss list is to be read into fewer bytes than the range has sequences.
+    fn short_list(&self) -> bool {
+        self.operation.reads_losses() && self.lengths[LOST] < self.range_count() as usize
+    }
+
     /// The refusal that header, lengths and numbers decide, by document 01's 'Refusal by operation' and document 02.
     pub fn refusal(&self) -> Option<u32> {
         let [first, second, third] = self.numbers;
@@ -236,7 +275,8 @@ impl Call {
             return Some(SEQUENCE);
         }
         match self.operation.numbers {
-            Numbers::Range => (range_count(first, second) > window_size).then_some(RANGE_COUNT),
+            Numbers::Range if self.range_count() > window_size => Some(RANGE_COUNT),
+            Numbers::Range => self.short_list().then_some(SHORT_LIST),
             Numbers::Budget => (first > LARGEST_BUDGET).then_some(BUDGET),
             Numbers::Base => is_wide(first).then_some(BASE),
             _ => None,

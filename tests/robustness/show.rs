@@ -182,7 +182,7 @@ impl Show {
     /// The packet as a faulty switch shows it: a call is made with its number's top bit set.
     fn receive_wide(&mut self, random: &mut Random, head: &mut Head, sequence: u32) -> Result<(), String> {
         let (wide, later) = (sequence | TOP_BIT, add(sequence, random.below(self.window_size)));
-        let (name, numbers) = match random.below(12) {
+        let (name, numbers) = match random.below(16) {
             0 => ("get", [wide, 0, 0]),
             1 => ("exchange", [wide, random.any(), 0]),
             2 => ("remove", [wide, 0, 0]),
@@ -192,6 +192,10 @@ impl Show {
             6 => ("remove_range", [sequence, later | TOP_BIT, 0]),
             7 => ("stranger", [wide, later, 0]),
             8 => ("stranger", [sequence, later | TOP_BIT, 0]),
+            9 => ("write_losses", [wide, later, 0]),
+            10 => ("write_losses", [sequence, later | TOP_BIT, 0]),
+            11 => ("read_losses", [wide, later, 0]),
+            12 => ("read_losses", [sequence, later | TOP_BIT, 0]),
             _ => ("insert", [wide, random.any(), 0]),
         };
         self.traffic.wide += 1;
@@ -275,6 +279,7 @@ impl Show {
             16 => self.jump(random, head),
             17..=18 if !self.front => head.set_base(self.play),
             19 => head.set_base(self.play | TOP_BIT),
+            20..=21 => head.report(random, self.play, last),
             _ => Ok(()),
         }
     }

@@ -17,6 +17,8 @@ mod ledger;
 #[allow(dead_code)]
 #[path = "../../oracle/src/line.rs"]
 mod line;
+#[path = "../../oracle/src/losses.rs"]
+mod losses;
 #[allow(dead_code)]
 mod memory;
 #[allow(dead_code)]
@@ -85,7 +87,7 @@ fn season(seed: u64, mappings: &mut Mappings, totals: &mut Totals, fault: Option
 }
 
 /// Each wrong end of a call, and words of what is said of it.
-const FAULTS: [(Fault, &str); 9] = [
+const FAULTS: [(Fault, &str); 12] = [
     (Fault::Twice, "is Free, not Retired"),
     (Fault::Never, "the ledger's"),
     (Fault::Another, "not Retired"),
@@ -95,6 +97,9 @@ const FAULTS: [(Fault, &str); 9] = [
     (Fault::Idle, "retired after"),
     (Fault::StillPoint, "base and point"),
     (Fault::StillBase, "base and point"),
+    (Fault::WordLess, "write_losses"),
+    (Fault::OtherWord, "write_losses"),
+    (Fault::OtherByte, "read_losses"),
 ];
 
 fn self_test() -> Result<String, String> {
