@@ -459,7 +459,7 @@ def unfoldable(crates):
     """The modules of crates, each with the definitions that a proof must name to compute with them."""
     for crate in crates:
         for path in sorted((ROOT / 'crates' / crate / 'specs').glob('*.antt')):
-            names = re.findall(r'^ *unfoldable (?:abbrev )?pub (\S+)', path.read_text(), re.M)
+            names = re.findall(r'^ *unfoldable (?:abbrev )?pub (?!use )(\S+)', path.read_text(), re.M)
             if names:
                 yield 'Rattle.%s.specs.%s' % (crate, path.stem), names
 
