@@ -1,4 +1,4 @@
--- Document 01, 'The plain table', and the base of document 02, S-1. It is fed window_size and the calls' arguments alone. Definitions only. Assumes nothing.
+-- Document 01, 'The plain table', the base of document 02, S-1, and the loss lists of S-4. It is fed window_size and the calls' arguments alone. Definitions only. Assumes nothing.
 use mathlib.Core.Bool.{Bool, true, false, cond, _&&_, _||_}
 use mathlib.Core.Option.{Option, none, some}
 use mathlib.Core.List.{List}
