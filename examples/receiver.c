@@ -220,6 +220,15 @@ static void report(const char *what, uint32_t number)
     expect(packet_window_check(window, LISTS).answer, PACKET_WINDOW_DONE);
 }
 
+/* Whether single removals or ranges made pages sparse again: by this demote_at is chosen. */
+static void report_demotions(void)
+{
+    printf("pages made sparse again %u: %u by deliveries, %u by dropped ranges\n", (unsigned)packet_window_demotions(&window),
+           (unsigned)window.single_demotions, (unsigned)window.range_demotions);
+    if (packet_window_demotions(&window) > window.promotions)
+        fail("more pages were made sparse than dense", (uint32_t)packet_window_demotions(&window));
+}
+
 /* A gap is seen: packets after the acknowledged one have come. The lost ones are reported, and the sender sends those again that it has. */
 static void fill_gap(void)
 {
@@ -276,6 +285,7 @@ int main(void)
 
     expect(keep(packet_window_clear(window, LISTS, LIST(returned))), PACKET_WINDOW_DONE);
     report("cleared, pages made dense", (uint32_t)window.promotions);
+    report_demotions();
 
     for (visits = 0; window.retired_held != 0; visits++)
         release_some();

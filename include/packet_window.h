@@ -44,8 +44,9 @@
  *                                 returned, PACKET_WINDOW_RETURN_PLACES, sequence, store);
  *     header = step.window;
  *
- * Its counts, base and point may be read (len, retired_held, promotions, demotions); no field is to be written by the caller. The host
- * forms of insert, remove and release_retired, at the end, take the caller's header by its address instead and update it in place.
+ * Its counts, base and point may be read (len, retired_held, promotions, single_demotions, range_demotions; packet_window_demotions adds
+ * the last two); no field is to be written by the caller. The host forms of insert, remove and release_retired, at the end, take the
+ * caller's header by its address instead and update it in place.
  *
  * ACKNOWLEDGE POINT. The header's base is 0 in a new window; packet_window_set_base sets it, and packet_window_take_front moves it by
  * one. Its point is the first sequence from the base, in 31-bit circular order, that is not live (packet_window_get does not find it), or
@@ -164,10 +165,19 @@ typedef struct packet_window_header {
     uint64_t nonempty_summary;
     /* Bit b: every page of block b counts as retired. */
     uint64_t retired_blocks;
-    /* Pages that became dense, and that became sparse again; modulo 2^64. */
+    /* Pages that became dense; modulo 2^64. */
     uint64_t promotions;
-    uint64_t demotions;
+    /* Pages that became sparse again by packet_window_remove and packet_window_take_front; modulo 2^64. */
+    uint64_t single_demotions;
+    /* Pages that became sparse again by packet_window_remove_range; modulo 2^64. */
+    uint64_t range_demotions;
 } packet_window_header;
+
+/* All pages that became sparse again, by either cause; modulo 2^64. */
+static inline uint64_t packet_window_demotions(const packet_window_header *header)
+{
+    return header->single_demotions + header->range_demotions;
+}
 
 /* ---- answers */
 
@@ -536,8 +546,9 @@ PACKET_WINDOW_AT(header, point, 28);
 PACKET_WINDOW_AT(header, nonempty_summary, 32);
 PACKET_WINDOW_AT(header, retired_blocks, 40);
 PACKET_WINDOW_AT(header, promotions, 48);
-PACKET_WINDOW_AT(header, demotions, 56);
-PACKET_WINDOW_SIZE(header, 64);
+PACKET_WINDOW_AT(header, single_demotions, 56);
+PACKET_WINDOW_AT(header, range_demotions, 64);
+PACKET_WINDOW_SIZE(header, 72);
 PACKET_WINDOW_AT(answer, code, 0);
 PACKET_WINDOW_AT(answer, first, 4);
 PACKET_WINDOW_AT(answer, second, 8);
@@ -545,9 +556,9 @@ PACKET_WINDOW_AT(answer, third, 12);
 PACKET_WINDOW_AT(answer, fourth, 16);
 PACKET_WINDOW_SIZE(answer, 20);
 PACKET_WINDOW_AT(step, window, 0);
-PACKET_WINDOW_AT(step, answer, 64);
-PACKET_WINDOW_AT(step, count, 84);
-PACKET_WINDOW_SIZE(step, 88);
+PACKET_WINDOW_AT(step, answer, 72);
+PACKET_WINDOW_AT(step, count, 92);
+PACKET_WINDOW_SIZE(step, 96);
 PACKET_WINDOW_AT(outcome, answer, 0);
 PACKET_WINDOW_AT(outcome, count, 20);
 PACKET_WINDOW_SIZE(outcome, 24);

@@ -6,8 +6,9 @@
 // The words are given in the order in which the port keeps them: a page as
 // kind, occupied, filled; a block as nonempty, retired, live.
 
-/// The header of the port, read from the source's fields. It has no base and
-/// no point: they are worked out beside it.
+/// The header of the port, read from the source's fields. The source has no
+/// base and no point, and one count of demotions: base, point and the
+/// demotions by cause are worked out beside it.
 #[derive(Debug, Clone, Copy, PartialEq, Eq)]
 pub struct WindowHeader {
     pub window_size: u32,
@@ -21,7 +22,8 @@ pub struct WindowHeader {
     pub nonempty_summary: u64,
     pub retired_blocks: u64,
     pub promotions: u64,
-    pub demotions: u64,
+    pub single_demotions: u64,
+    pub range_demotions: u64,
 }
 
 /// One page as the port keeps it. A page that is not there is all zero.
@@ -80,7 +82,13 @@ impl<T, const N: usize> AdaptiveReceiverPacketWindow<T, N> {
         self.window_size
     }
 
-    pub fn header(&self, base: u32, point: u32) -> WindowHeader {
+    pub fn header(
+        &self,
+        base: u32,
+        point: u32,
+        single_demotions: u64,
+        range_demotions: u64,
+    ) -> WindowHeader {
         WindowHeader {
             window_size: self.window_size,
             n: N as u32,
@@ -93,7 +101,8 @@ impl<T, const N: usize> AdaptiveReceiverPacketWindow<T, N> {
             nonempty_summary: self.nonempty_summary,
             retired_blocks: self.retired_blocks,
             promotions: self.promotions as u64,
-            demotions: self.demotions as u64,
+            single_demotions,
+            range_demotions,
         }
     }
 

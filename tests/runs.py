@@ -47,7 +47,8 @@ LETTERS = {
 }
 NUMBERS = {'q': 'pair {} 0 0 0'}  # what a number says that a letter prints; `found` for the others
 # The header's fields in the order in which `oracle --words` prints them (oracle/src/state.rs).
-HEADER = 'window_size n demote_at len retired_held release_cursor base point nonempty_summary retired_blocks promotions demotions'.split()
+HEADER = ('window_size n demote_at len retired_held release_cursor base point nonempty_summary retired_blocks promotions '
+          'single_demotions range_demotions').split()
 BLOCK = 3  # words of a block
 
 # What the prover needs for a call, roughly, in thousandths of a second (cost_of): so much, and for a letter that searches so
@@ -74,7 +75,7 @@ use Rattle.model.specs.Roles.{roleOf, toldOf}
 use Rattle.model.specs.Table.{Pair, TableState, tableStep}
 use Rattle.model.specs.Positions.{Positions, step}
 use Rattle.model.specs.Window.{Page, Block, Window, window, noBlock, pagesOf, blocksOf, livePairs}
-use Rattle.model.specs.Steps.{windowStep}
+use Rattle.model.specs.Steps.{windowStep, demotionsOf}
 @USES@
 
 -- names every definition that computes
@@ -187,12 +188,12 @@ abbrev pub newAnswer : ℕ → Answer
 newAnswer zero = done
 newAnswer (suc k) = refused (suc k)
 
--- with the counts of a window
+-- with the counts of a window, as they are printed: the demotions of both causes are one count
 abbrev pub counted : Window → ((len held promotions demotions : ℕ) → Entry) → Entry
-counted w f = f (w .header .len) (w .header .«retired_held») (w .header .promotions) (w .header .demotions)
+counted w f = f (w .header .len) (w .header .«retired_held») (w .header .promotions) (demotionsOf (w .header))
 
 abbrev pub didOn : Window → Call → Answer → List ℕ → Entry
-didOn w c a l = did c (printed a) (w .header .len) (w .header .«retired_held») (w .header .promotions) (w .header .demotions) l
+didOn w c a l = did c (printed a) (w .header .len) (w .header .«retired_held») (w .header .promotions) (demotionsOf (w .header)) l
 
 -- the run once more, with what the window's definitions say
 abbrev pub replay : Window → List Entry → List Entry
@@ -564,7 +565,7 @@ def summary(runs, files, theorems, seconds):
 # Calls, answers, and the source's words after the last of them.
 TRUE_CALLS = 'n 64 2 1;i 5 50;i 69 51;i 6 60;i 7 70;l;d 6 7;q 69 69;a 5;g 5'
 TRUE_ANSWERS = 'n . 0 0 0 0;i + 1 0 0 0;i !4 1 0 0 0;i + 2 0 0 0;i + 3 0 1 0;l 3 3 0 1 0 5:50 6:60 7:70;d 2 1 0 1 1 60 70;q 5 1 0 1 1;a . 1 0 1 1;g 50 1 0 1 1'
-TRUE_WORDS = '64 2 1 1 0 0 5 6 1 0 1 1|1 0 1|0 1 32 1 0.5.50'
+TRUE_WORDS = '64 2 1 1 0 0 5 6 1 0 1 0 1|1 0 1|0 1 32 1 0.5.50'
 # What is falsified, the text before and after, what of it the prover shows, and which theorems say it.
 FALSE = [
     ('an answer', '(ask (get 5)) (found 50)', '(ask (get 5)) (found 51)', '51', 'window table positions'),
@@ -578,6 +579,8 @@ FALSE = [
     ('a word of the header', '«release_cursor» = 0', '«release_cursor» = 1', '1', 'window'),
     ('the base', ' base = 5', ' base = 4', '4', 'window'),
     ('the point', 'point = 6', 'point = 5', '5', 'window'),
+    ('the demotions by single removals', '«single_demotions» = 0', '«single_demotions» = 1', '1', 'window'),
+    ('the demotions by ranges', '«range_demotions» = 1', '«range_demotions» = 0', '0', 'window'),
     ('a word of a block', 'block 1 0 1', 'block 1 0 2', '2', 'window'),
     ('a word of a page', 'page 0 1 32 1', 'page 0 2 32 1', '2', 'window'),
     ('a cell in use', 'cell 0 5 50', 'cell 0 5 51', '51', 'window'),

@@ -3,8 +3,8 @@
 //! The source takes N as a const parameter; a trait object hides it, with one
 //! instance for each N from 1 to 63. What the source lacks or answers with a
 //! panic is worked out here: refusals 1, 2, 3, 8, 9 and 10, the units of
-//! release_retired, stranger, the base and its point. The source takes
-//! sequences of 32 bits; it is asked for those of 31 alone.
+//! release_retired, stranger, the base and its point, demotions by cause. The
+//! source takes sequences of 32 bits; it is asked for those of 31 alone.
 
 use crate::line::Call;
 use crate::value::{take_dropped, Value};
@@ -41,7 +41,7 @@ pub trait Window: Memory {
     fn call(&mut self, call: Call) -> Answer;
     /// The header as the port has it; its point is looked for in each call of this.
     fn header(&self) -> WindowHeader;
-    /// Len, retired_held, promotions and demotions.
+    /// Len, retired_held, promotions, and the demotions of both causes.
     fn counts(&self) -> [u64; 4];
     fn window_size(&self) -> u32;
     /// Whether `get` finds the sequence.
@@ -59,14 +59,38 @@ pub trait Memory {
 
 type Source<const N: usize> = AdaptiveReceiverPacketWindow<Value, N>;
 
-/// The source's window, and beside it the base, which is 0 at first.
+/// The source's window, and beside it the base and the demotions by cause, all
+/// 0 at first.
 struct Based<const N: usize> {
     window: Source<N>,
     base: u32,
+    demotions: Demotions,
 }
 
-impl<const N: usize> Window for Based<N> {
-    fn call(&mut self, call: Call) -> Answer {
+/// The source's demotions by the call that made them.
+#[derive(Default)]
+struct Demotions {
+    /// By remove and take_front.
+    single: u64,
+    /// By remove_range.
+    range: u64,
+}
+
+impl Demotions {
+    /// What the source's count has risen by since the last call is the call's.
+    fn attribute(&mut self, call: Call, count: usize) {
+        let (known, count, letter) = (self.single + self.range, count as u64, call.letter());
+        assert!(count >= known, "{letter}: demotions fall to {count}");
+        match call {
+            Call::Remove(_) | Call::TakeFront => self.single += count - known,
+            Call::RemoveRange { .. } => self.range += count - known,
+            _ => assert!(count == known, "{letter}: only r, t and d demote pages"),
+        }
+    }
+}
+
+impl<const N: usize> Based<N> {
+    fn answer(&mut self, call: Call) -> Answer {
         if call.has_wide_sequence() {
             return Answer::Refused(10);
         }
@@ -113,18 +137,30 @@ impl<const N: usize> Window for Based<N> {
         }
     }
 
+    fn header_with(&self, point: u32) -> WindowHeader {
+        let Demotions { single, range } = self.demotions;
+        self.window.header(self.base, point, single, range)
+    }
+}
+
+impl<const N: usize> Window for Based<N> {
+    fn call(&mut self, call: Call) -> Answer {
+        let answer = self.answer(call);
+        self.demotions.attribute(call, self.window.demotions());
+        answer
+    }
+
     fn header(&self) -> WindowHeader {
-        let point = point(&self.window, self.base);
-        self.window.header(self.base, point)
+        self.header_with(point(&self.window, self.base))
     }
 
     fn counts(&self) -> [u64; 4] {
-        let header = self.window.header(self.base, 0);
+        let header = self.header_with(0);
         [
             u64::from(header.len),
             u64::from(header.retired_held),
             header.promotions,
-            header.demotions,
+            header.single_demotions.wrapping_add(header.range_demotions),
         ]
     }
 
@@ -242,7 +278,11 @@ fn stranger<const N: usize>(window: &Source<N>, first: u32, last: u32) -> Answer
 }
 
 fn based<const N: usize>(window: Source<N>) -> Box<dyn Window> {
-    Box::new(Based { window, base: 0 })
+    Box::new(Based {
+        window,
+        base: 0,
+        demotions: Demotions::default(),
+    })
 }
 
 /// One arm for each N, since the source wants it when it is compiled.

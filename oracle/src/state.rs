@@ -36,7 +36,8 @@ fn written_header(header: &WindowHeader) -> String {
         header.nonempty_summary,
         header.retired_blocks,
         header.promotions,
-        header.demotions,
+        header.single_demotions,
+        header.range_demotions,
     ];
     format!("{} {}", joined(small.iter()), joined(words.iter()))
 }

@@ -4,7 +4,8 @@
 Functions and structs of include/packet_window.h and of bindings/rust/src/raw.rs are those of the library's source: names, the
 names, types and order of parameters and fields. The constants, and the numbers of answers and refusals, are the source's, and the
 wrapper reads every refusal's number. The functions of the header are the packet_window_ symbols of target/libpacket_window.a, each
-there once. One version stands in the library, the header, the wrapper, Cargo.toml and at the head of CHANGELOG.md.
+there once; an inline function of the header is none of them. One version stands in the library, the header, the wrapper, Cargo.toml
+and at the head of CHANGELOG.md.
 """
 import re
 import subprocess
@@ -138,6 +139,10 @@ def c_functions(text):
     }
 
 
+def c_inline_functions(text):
+    return set(re.findall(r"static inline \w+ (packet_window_\w+)\(", text))
+
+
 def c_structs(text):
     found = re.findall(r"typedef struct packet_window_(\w+) \{(.*?)\} packet_window_\1;", text, flags=re.S)
     return {name: [c_named(field) for field in parts(fields, ";")] for name, fields in found}
@@ -230,6 +235,8 @@ def main():
     same("wrapper, refusals read", raw_read(read(ANSWERS)), dict.fromkeys(refusals, True))
     if symbols() != sorted(functions):
         raise SystemExit(f"the symbols of the library are {symbols()}, the functions of the header {sorted(functions)}")
+    if c_inline_functions(header) & set(symbols()):
+        raise SystemExit(f"inline functions of the header are symbols of the library: {sorted(c_inline_functions(header) & set(symbols()))}")
     counts = f"{len(functions)} functions, {len(structs)} structs, {len(constants)} constants, {len(codes)} codes, {len(refusals)} refusals"
     print(f"{counts} as the library has them")
 

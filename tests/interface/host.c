@@ -43,6 +43,9 @@ static unsigned given[MOST], refused[MOST];
 /* The furthest that a point was from its base. */
 static uint32_t furthest;
 
+/* Pages that the host form of remove made sparse. */
+static unsigned host_demotions;
+
 /* What a call by value gave, as a host form gives it: the window keeps the header. */
 static packet_window_outcome keep(window *w, packet_window_step step)
 {
@@ -70,7 +73,9 @@ static int insert(uint32_t sequence, uint32_t store, size_t places)
 
 static int remove_one(uint32_t sequence)
 {
+    uint64_t before = host.header.single_demotions;
     packet_window_outcome a = packet_window_host_remove(&host.header, LISTS(host), sequence);
+    host_demotions += host.header.single_demotions != before;
     return same(a, keep(&by_value, packet_window_remove(by_value.header, LISTS(by_value), sequence)));
 }
 
@@ -112,11 +117,22 @@ static int right_point(void)
     return w.point == ((w.base + reach) & 0x7fffffffu);
 }
 
+/* A page that is thinned: the sequence of its first position, and how many positions are still to be removed. */
+static uint32_t thinned, positions;
+
 static int call(void)
 {
     uint32_t sequence = below(WINDOW_SIZE + 4000) | (below(40) == 0 ? 0x80000000u : 0);
     size_t places = PACKET_WINDOW_RETURN_PLACES - (below(50) == 0);
+    if (positions != 0)
+        return remove_one(thinned + --positions);
     switch (below(20)) {
+    case 9:
+        if (below(100) == 0) {
+            thinned = below(WINDOW_SIZE) / PACKET_WINDOW_PAGE_SLOTS * PACKET_WINDOW_PAGE_SLOTS;
+            positions = PACKET_WINDOW_PAGE_SLOTS;
+        }
+        return 1;
     case 0:
         return below(10) != 0 || remove_range(sequence, sequence + below(WINDOW_SIZE));
     case 5:
@@ -156,6 +172,10 @@ int main(void)
         !refused[PACKET_WINDOW_REFUSED_BUDGET] || !refused[PACKET_WINDOW_REFUSED_BASE] || !refused[PACKET_WINDOW_REFUSED_SEQUENCE] ||
         furthest < 10) {
         printf("an answer was never given\n");
+        return 1;
+    }
+    if (!host_demotions || !host.header.range_demotions || packet_window_demotions(&host.header) > host.header.promotions) {
+        printf("demotions: %u by the host form, %u of ranges\n", host_demotions, (unsigned)host.header.range_demotions);
         return 1;
     }
     printf("%u calls alike\n", (unsigned)CALLS);

@@ -1,7 +1,8 @@
 /*
  * The version of packet_window.h is the library's. Its macros, for every window_size, are document 01's lengths: packet_window_new takes
  * lists of these lengths and refuses one that is shorter. PACKET_WINDOW_LOSS_WORDS is the number of words that packet_window_write_losses
- * writes where every third sequence is live, and a list with a place fewer is refused. C99 and C++11.
+ * writes where every third sequence is live, and a list with a place fewer is refused. packet_window_demotions adds the header's two
+ * counts of demotions modulo 2^64, and these are counted by remove and by remove_range. C99 and C++11.
  */
 #include "packet_window.h"
 
@@ -21,6 +22,11 @@ static uint32_t returned[PACKET_WINDOW_RETURN_PLACES];
 static uint32_t words[PACKET_WINDOW_LOSS_WORDS(LARGEST)];
 
 enum { SEQUENCES, VALUES, PAGES, BLOCKS, LISTS };
+
+/* The lists with the lengths for a window_size. */
+#define LISTS_OF(window_size)                                                                                                           \
+    sequences, PACKET_WINDOW_CAPACITY(window_size), values, PACKET_WINDOW_CAPACITY(window_size), pages,                                 \
+        PACKET_WINDOW_PAGE_WORDS(window_size), blocks, PACKET_WINDOW_BLOCK_WORDS(window_size)
 
 /* Document 01: "capacity = window_size, at least 64, raised to a power of two"; 64 positions make a page, 64 pages a block. */
 static void named_lengths(uint32_t window_size, size_t lengths[LISTS])
@@ -93,6 +99,38 @@ static int loss_words_hold(packet_window_header header, const size_t lengths[LIS
            is_refused(losses_of(header, lengths, count, lost - 1), PACKET_WINDOW_REFUSED_SHORT_LIST);
 }
 
+/* packet_window_demotions of a header with these counts. */
+static uint64_t demotions_of(uint64_t single, uint64_t range)
+{
+    packet_window_header header = packet_window_new(LISTS_OF(64), 64, 8, 4).window;
+    header.single_demotions = single;
+    header.range_demotions = range;
+    return packet_window_demotions(&header);
+}
+
+/* The sequences 0 to 9 in one page, which is dense, and then six of them removed: one by one, or as a range. */
+static packet_window_header thinned(int by_range)
+{
+    packet_window_header header = packet_window_new(LISTS_OF(64), 64, 8, 4).window;
+    uint32_t sequence;
+    for (sequence = 0; sequence < 10; sequence++)
+        header = packet_window_insert(header, LISTS_OF(64), returned, PACKET_WINDOW_RETURN_PLACES, sequence, 0).window;
+    if (by_range)
+        return packet_window_remove_range(header, LISTS_OF(64), returned, PACKET_WINDOW_RETURN_PLACES, 0, 5).window;
+    for (sequence = 0; sequence < 6; sequence++)
+        header = packet_window_remove(header, LISTS_OF(64), sequence).window;
+    return header;
+}
+
+static int demotions_hold(void)
+{
+    packet_window_header single = thinned(0), range = thinned(1);
+    return demotions_of(0, 0) == 0 && demotions_of(3, 4) == 7 && demotions_of(UINT64_MAX, 2) == 1 && demotions_of(2, UINT64_MAX) == 1 &&
+           demotions_of(UINT64_MAX, 0) == UINT64_MAX && demotions_of(UINT64_MAX, UINT64_MAX) == UINT64_MAX - 1 &&
+           single.single_demotions == 1 && single.range_demotions == 0 && packet_window_demotions(&single) == 1 &&
+           range.single_demotions == 0 && range.range_demotions == 1 && packet_window_demotions(&range) == 1;
+}
+
 int main(void)
 {
     uint32_t window_size, count;
@@ -100,6 +138,10 @@ int main(void)
     packet_window_header header;
     if (packet_window_version() != PACKET_WINDOW_VERSION) {
         printf("the library's version is %u, the header's %u\n", (unsigned)packet_window_version(), (unsigned)PACKET_WINDOW_VERSION);
+        return 1;
+    }
+    if (!demotions_hold()) {
+        printf("the demotions are wrong\n");
         return 1;
     }
     for (window_size = 1; window_size <= LARGEST; window_size++) {

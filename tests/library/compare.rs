@@ -4,7 +4,8 @@
 //! made on the source and on the library, but for those with a sequence, first or last of 2147483648 or more: these the source would
 //! take, and the library must refuse 10 and alter nothing. The answer, the returned values in order, the header with its base and point, all block
 //! words, and words and cells in use of the pages that the call may have changed are compared after it, those of all pages after each
-//! call on windows up to 512 and now and then on larger ones. Half of the calls that have a host form are made by it.
+//! call on windows up to 512 and now and then on larger ones. Half of the calls that have a host form are made by it. Of half of the
+//! windows the library's counts of demotions begin just below 2^64, and must be the source's with that start added, modulo 2^64.
 
 /// The source's work counters stay out.
 macro_rules! count_work {
@@ -30,6 +31,7 @@ mod value;
 mod window;
 
 use calls::{Generator, Item, Options, Random};
+use declared::Header;
 use library::{has_host_form, Library};
 use line::Call;
 use program::program;
@@ -49,6 +51,24 @@ struct Counts {
     reached: u64,
     /// Calls refused 10, by their letter.
     wide: BTreeMap<char, u64>,
+    /// Demotions that were compared, by the letter of the call.
+    demotions: BTreeMap<char, u64>,
+    /// Wraps of single_demotions, and of range_demotions.
+    wraps: [u64; 2],
+}
+
+impl Counts {
+    /// What a call raised the counts of demotions by.
+    fn demoted(&mut self, call: Call, before: Header, after: Header) {
+        let pairs = [(before.single_demotions, after.single_demotions), (before.range_demotions, after.range_demotions)];
+        for (wraps, (before, after)) in self.wraps.iter_mut().zip(pairs) {
+            let rise = after.wrapping_sub(before);
+            if rise > 0 {
+                *self.demotions.entry(call.letter()).or_default() += rise;
+            }
+            *wraps += u64::from(after < before);
+        }
+    }
 }
 
 struct Both {
@@ -82,6 +102,7 @@ impl Both {
             self.library.short(random, call, host)?;
             counts.refused += 1;
         }
+        let before = self.library.parts().0;
         let (answer, dropped) = call_and_drops(self.source.as_mut(), call);
         self.library.call(call, host, &answer, &dropped)?;
         counts.compared += 1;
@@ -101,6 +122,7 @@ impl Both {
         if self.library.past() != self.past {
             return Err("memory past the named lengths changed".to_string());
         }
+        counts.demoted(call, before, header);
         Ok(())
     }
 }
@@ -108,7 +130,10 @@ impl Both {
 fn renewed(random: &mut Random, window_size: u32, n: u32, demote_at: u32) -> Result<Option<Both>, String> {
     match fresh(window_size, n, demote_at) {
         Ok(source) => {
-            let library = Library::new(random, window_size, n, demote_at)?;
+            let mut library = Library::new(random, window_size, n, demote_at)?;
+            if random.percent(50) {
+                library.count_demotions_from([(); 2].map(|()| u64::MAX - u64::from(random.below(3))));
+            }
             let past = library.past();
             let pages = 0..source.page_count();
             if let Some(difference) = library.differs(source.as_ref(), pages) {
@@ -150,17 +175,24 @@ fn run(seeds: RangeInclusive<u64>, calls: u32, options: Options) -> Result<Strin
     for seed in seeds {
         list(seed, calls, options, &mut counts)?;
     }
-    let Counts { compared, hosted, refused, strangers, fronts, reached, wide } = counts;
+    let Counts { compared, hosted, refused, strangers, fronts, reached, wide, demotions, wraps } = counts;
     if hosted == 0 || refused == 0 || strangers == 0 || fronts == 0 || reached == 0 {
         return Err("no host form compared, no short list refused, no stranger found, no front taken or no point past its base".to_string());
     }
     if wide.keys().collect::<String>() != "defgiqrs" {
         return Err(format!("refused 10 by the letters {wide:?} alone"));
     }
+    if demotions.keys().collect::<String>() != "drt" || wraps.contains(&0) {
+        return Err(format!("demotions by the letters {demotions:?}, and wraps of their counts {wraps:?}"));
+    }
     let wide: u64 = wide.values().sum();
+    let (by_range, by_remove, by_front) = (demotions[&'d'], demotions[&'r'], demotions[&'t']);
+    let [single_wraps, range_wraps] = wraps;
     Ok(format!(
         "{compared} calls as the source, {hosted} by host forms, {refused} with a short list refused 6, {wide} with a number \
-         of more than 31 bits refused 10, {strangers} strangers found, {fronts} fronts taken, {reached} points past their base"
+         of more than 31 bits refused 10, {strangers} strangers found, {fronts} fronts taken, {reached} points past their base, \
+         {by_remove} demotions by remove, {by_front} by take_front, {by_range} by remove_range, {single_wraps} wraps of \
+         single_demotions, {range_wraps} of range_demotions"
     ))
 }
 

@@ -209,6 +209,13 @@ fn another_point(random: &mut Random, state: &mut State) -> Option<()> {
     Some(())
 }
 
+/// Any counts of demotions: the state stays sound.
+fn any_demotions(random: &mut Random, state: &mut State) -> Option<()> {
+    state.header.single_demotions = random.pick(&[0, u64::MAX - 1, u64::MAX]);
+    state.header.range_demotions = random.next();
+    Some(())
+}
+
 fn any_page_word(random: &mut Random, state: &mut State) -> Option<()> {
     let word = below(random, 3 * state.page_count());
     state.pages[word] ^= 1 << below(random, 64);
@@ -229,7 +236,7 @@ fn any_sequence(random: &mut Random, state: &mut State) -> Option<()> {
 
 type Damage = fn(&mut Random, &mut State) -> Option<()>;
 
-const DAMAGES: [Damage; 26] = [
+const DAMAGES: [Damage; 27] = [
     kind_3,
     kind_0_with_values,
     kind_1_without_a_value,
@@ -253,6 +260,7 @@ const DAMAGES: [Damage; 26] = [
     base_of_32_bits,
     another_base,
     another_point,
+    any_demotions,
     any_page_word,
     any_block_word,
     any_sequence,

@@ -24,7 +24,8 @@ impl From<WindowHeader> for Header {
             nonempty_summary: header.nonempty_summary,
             retired_blocks: header.retired_blocks,
             promotions: header.promotions,
-            demotions: header.demotions,
+            single_demotions: header.single_demotions,
+            range_demotions: header.range_demotions,
         }
     }
 }
@@ -135,6 +136,8 @@ pub struct Library {
     header: Header,
     lists: Lists,
     lengths: Lengths,
+    /// What the counts of demotions were at first: single_demotions, range_demotions.
+    demotions: [u64; 2],
 }
 
 fn any_words(random: &mut Random, length: usize) -> Vec<u64> {
@@ -159,6 +162,7 @@ impl Library {
                 returned: any_numbers(random, lengths.returned + PAST),
             },
             lengths,
+            demotions: [0; 2],
         };
         let step = library.made(lengths, window_size, n, demote_at);
         if step.answer != numbered(DONE, 0) || step.count != 0 {
@@ -166,6 +170,12 @@ impl Library {
         }
         library.header = step.window;
         Ok(library)
+    }
+
+    /// The new window goes on from these counts of demotions. No call looks at them.
+    pub fn count_demotions_from(&mut self, demotions @ [single, range]: [u64; 2]) {
+        (self.header.single_demotions, self.header.range_demotions) = (single, range);
+        self.demotions = demotions;
     }
 
     /// Refusal 1, 2 or 3: a header of zeros, and nothing is written.
@@ -389,10 +399,22 @@ impl Library {
         Ok(given)
     }
 
+    /// The header as it must be beside the source's: the counts of demotions go on from those at first, modulo 2^64.
+    fn due(&self, source: WindowHeader) -> Header {
+        let [single, range] = self.demotions;
+        let header = Header::from(source);
+        Header {
+            single_demotions: header.single_demotions.wrapping_add(single),
+            range_demotions: header.range_demotions.wrapping_add(range),
+            ..header
+        }
+    }
+
     /// What is not as the source has it: header, block words, and of the pages in `pages` words and cells in use.
     pub fn differs(&self, source: &dyn Window, pages: impl Iterator<Item = usize>) -> Option<String> {
-        if self.header != source.header().into() {
-            return Some(format!("header {:?}, the source's {:?}", self.header, source.header()));
+        let due = self.due(source.header());
+        if self.header != due {
+            return Some(format!("header {:?}, due by the source's {due:?}", self.header));
         }
         let words = source.block_words();
         if self.lists.blocks[..words.len()] != *words {

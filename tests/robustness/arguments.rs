@@ -2,7 +2,7 @@
 
 use crate::calls::Random;
 use crate::declared::Header;
-use crate::memory::{capacity, named, Memory, LARGEST_WINDOW, SEQUENCES};
+use crate::memory::{capacity, named, Memory, BLOCKS, LARGEST_WINDOW, PAGES, SEQUENCES};
 use crate::operations::{form, Call, Numbers, LARGEST_BUDGET, OPERATIONS};
 
 const HALF: u32 = 1 << 31;
@@ -149,6 +149,17 @@ impl Arguments {
         let operation = form("insert", random.percent(50)).expect("insert is a call");
         Call { operation, numbers: [(self.base + self.next) % HALF, random.any(), 0], ..call }
     }
+}
+
+/// A live sequence of the first page that is dense and not retired, in a sound state.
+pub fn in_a_dense_page(random: &mut Random, memory: &mut Memory) -> Option<u32> {
+    let Header { window_size, retired_blocks, .. } = memory.header;
+    let blocks = memory.lists[BLOCKS].words().to_vec();
+    let retired = |page: usize| retired_blocks >> (page / 64) & 1 == 1 || blocks[3 * (page / 64) + 1] >> (page % 64) & 1 == 1;
+    let pages = memory.lists[PAGES].words();
+    let page = (0..capacity(window_size) / 64).find(|&page| pages[3 * page] == 2 && !retired(page))?;
+    let positions: Vec<usize> = (0..64).filter(|position| pages[3 * page + 1] >> position & 1 == 1).collect();
+    Some(memory.lists[SEQUENCES].numbers()[64 * page + random.pick(&positions)])
 }
 
 /// The call with one of its lists shorter than the window_size names it.

@@ -42,6 +42,11 @@ fn any_word(random: &mut Random) -> u64 {
     word(random, kind)
 }
 
+/// A count that wraps soon.
+fn near_the_top(random: &mut Random) -> u64 {
+    u64::MAX - u64::from(random.below(3))
+}
+
 /// All bits random, in the lists and around them.
 pub fn fill_around(random: &mut Random, memory: &mut Memory) {
     for list in &mut memory.lists {
@@ -54,13 +59,16 @@ fn fill_header(random: &mut Random, memory: &mut Memory, kind: Kind) {
     // Every field is named, so that a new one is not left out.
     let Header {
         window_size: _, n, demote_at, len, retired_held, release_cursor, base, point,
-        nonempty_summary, retired_blocks, promotions, demotions,
+        nonempty_summary, retired_blocks, promotions, single_demotions, range_demotions,
     } = &mut memory.header;
     for count in [len, retired_held, release_cursor, base, point] {
         *count = word(random, kind) as u32;
     }
-    for field in [nonempty_summary, retired_blocks, promotions, demotions] {
+    for field in [nonempty_summary, retired_blocks, promotions] {
         *field = word(random, kind);
+    }
+    for count in [single_demotions, range_demotions] {
+        *count = if random.percent(25) { near_the_top(random) } else { word(random, kind) };
     }
     *n = 1 + random.below(63);
     *demote_at = random.below(*n + 1);
@@ -210,6 +218,12 @@ fn change_masks(random: &mut Random, memory: &mut Memory) {
     }
 }
 
+/// Counts of demotions that wrap soon. A sound state stays sound.
+pub fn change_demotions(random: &mut Random, memory: &mut Memory) {
+    memory.header.single_demotions = near_the_top(random);
+    memory.header.range_demotions = near_the_top(random);
+}
+
 /// Another window_size, N or demote_at, inside the limits; the lists are long enough still.
 fn change_limits(random: &mut Random, memory: &mut Memory) {
     let header = &mut memory.header;
@@ -222,7 +236,7 @@ fn change_limits(random: &mut Random, memory: &mut Memory) {
 
 type Change = fn(&mut Random, &mut Memory);
 
-const CHANGES: [Change; 10] = [
+const CHANGES: [Change; 11] = [
     change_page,
     change_page,
     change_block,
@@ -232,6 +246,7 @@ const CHANGES: [Change; 10] = [
     change_cursor,
     change_base,
     change_masks,
+    change_demotions,
     change_limits,
 ];
 

@@ -1,10 +1,10 @@
-//! What was met: kinds of memory, calls, refusals, capacities.
+//! What was met: kinds of memory, calls, refusals, demotions, capacities.
 
 use crate::contents::Kind;
-use crate::declared::NumberedStep;
+use crate::declared::{Header, NumberedStep};
 use crate::judge::refused;
 use crate::memory::{capacity, LARGEST_WINDOW};
-use crate::operations::{Call, OPERATIONS, REFUSALS, SHORT_LIST};
+use crate::operations::{demotions_counted, Call, OPERATIONS, REFUSALS, SHORT_LIST};
 
 /// What the memory held when a list of calls began.
 #[derive(Debug, Clone, Copy, PartialEq, Eq)]
@@ -39,6 +39,10 @@ pub struct Counts {
     /// Loss lists written on sound states, by their words, 0, 1, 2 and more; and those that did not fit.
     written: [u64; 4],
     short: u64,
+    /// Demotions counted on sound states, by operation; ranges that counted two; wraps of single_demotions and of range_demotions.
+    demotions: Vec<u64>,
+    twice: u64,
+    wraps: [u64; 2],
     /// Calls by the capacity's exponent.
     windows: [u64; 17],
 }
@@ -48,7 +52,9 @@ impl Counts {
         let calls = vec![vec![0; OPERATIONS.len()]; STARTS.len()];
         let refusals = vec![vec![0; REFUSALS as usize + 1]; STARTS.len()];
         let answers = vec![[0; 8]; OPERATIONS.len()];
-        Self { calls, refusals, answers, checked: 0, retired: 0, written: [0; 4], short: 0, windows: [0; 17] }
+        let demotions = vec![0; OPERATIONS.len()];
+        let (checked, retired, short, twice) = (0, 0, 0, 0);
+        Self { calls, refusals, answers, checked, retired, written: [0; 4], short, demotions, twice, wraps: [0; 2], windows: [0; 17] }
     }
 
     pub fn total(&self) -> u64 {
@@ -66,6 +72,9 @@ impl Counts {
             if call.operation.writes_losses() {
                 self.note_report(step);
             }
+            if call.operation.most_demotions() != [0, 0] {
+                self.note_demotions(operation, call.header, step.window);
+            }
         }
         let window_size = call.header.window_size.clamp(1, LARGEST_WINDOW);
         self.windows[capacity(window_size).ilog2() as usize] += 1;
@@ -79,7 +88,15 @@ impl Counts {
         }
     }
 
-    /// A start, a call, a refusal or an answer that was never met.
+    fn note_demotions(&mut self, operation: usize, before: Header, after: Header) {
+        let counted = demotions_counted(before, after);
+        self.demotions[operation] += counted.iter().sum::<u64>();
+        self.twice += u64::from(counted[1] == 2);
+        self.wraps[0] += u64::from(after.single_demotions < before.single_demotions);
+        self.wraps[1] += u64::from(after.range_demotions < before.range_demotions);
+    }
+
+    /// A start, a call, a refusal, an answer or a demotion that was never met.
     pub fn missing(&self) -> Option<String> {
         for (operation, answers) in OPERATIONS.iter().zip(&self.answers) {
             if let Some(code) = operation.codes.iter().find(|&&code| answers[code as usize] == 0) {
@@ -97,6 +114,13 @@ impl Counts {
         }
         if self.short == 0 || self.written.contains(&0) {
             return Some(format!("no loss list on a sound state of 0, 1, 2 or more words, or refused: {:?}, {}", self.written, self.short));
+        }
+        let mut counted = OPERATIONS.iter().zip(&self.demotions).filter(|(operation, _)| operation.most_demotions() != [0, 0]);
+        if let Some((operation, _)) = counted.find(|&(_, &demotions)| demotions == 0) {
+            return Some(format!("no demotion by {} on a sound state", operation.name));
+        }
+        if self.twice == 0 || self.wraps.contains(&0) {
+            return Some(format!("no range of two demotions, or no wrap of a count: {}, {:?}", self.twice, self.wraps));
         }
         (self.retired == 0).then(|| "no sound state with retired values".to_string())
     }
@@ -122,6 +146,13 @@ impl Counts {
             println!("| {} | {calls} |", 1 << power);
         }
         println!("\n{} calls on sound states that hold retired values, {} states checked", self.retired, self.checked);
-        println!("loss lists on sound states of 0, 1, 2 and more words: {:?}, and {} that did not fit\n", self.written, self.short);
+        println!("loss lists on sound states of 0, 1, 2 and more words: {:?}, and {} that did not fit", self.written, self.short);
+        let demotions = OPERATIONS.iter().zip(&self.demotions).filter(|(operation, _)| operation.most_demotions() != [0, 0]);
+        let demotions: Vec<String> = demotions.map(|(operation, demotions)| format!("{demotions} by {}", operation.name)).collect();
+        let (twice, [single, range]) = (self.twice, self.wraps);
+        println!(
+            "demotions on sound states: {}; {twice} ranges of two; single_demotions wrapped {single} times, range_demotions {range}\n",
+            demotions.join(", ")
+        );
     }
 }

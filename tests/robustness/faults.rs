@@ -2,7 +2,7 @@
 
 use crate::declared::{Header, NumberedAnswer, NumberedStep, ABSENT, DONE, FOUND, PAIR, REFUSED};
 use crate::memory::{Lent, BLOCKS, HEADER, LOST, PAGES, RETURNED, SEQUENCES, VALUES, WORDS};
-use crate::operations::{is_wide, Call, LOSS_LIST, OCCUPIED, RANGE_COUNT, SEQUENCE, SHORT_LIST, SHORT_MEMORY, UNSOUND};
+use crate::operations::{demotions_counted, is_wide, Call, LOSS_LIST, OCCUPIED, RANGE_COUNT, SEQUENCE, SHORT_LIST, SHORT_MEMORY, UNSOUND};
 use crate::judge::refused;
 use std::ops::Not;
 use std::process::Command;
@@ -17,6 +17,8 @@ pub struct Fault {
 const OUTSIDE: &str = "access outside of the lent memory";
 /// A write next to a list faults, or changes what stands between the list and the guard region.
 const WRITTEN: &str = "outside";
+/// A demotion under another cause than the call's, or too many.
+const DEMOTIONS: &str = "demotions, single and of ranges, at most";
 
 fn refusal(number: u32) -> NumberedAnswer {
     NumberedAnswer { code: REFUSED, first: number, second: 0, third: 0, fourth: 0 }
@@ -46,6 +48,21 @@ fn changed<T: Not<Output = T>>(place: *mut T) {
 /// Whether the arguments of a call of that name do not refuse it.
 fn taken(call: &Call, name: &str) -> bool {
     call.operation.name == name && call.refusal().is_none()
+}
+
+fn raise(count: &mut u64) {
+    *count = count.wrapping_add(1);
+}
+
+fn single_rose(call: &Call, step: &NumberedStep) -> bool {
+    demotions_counted(call.header, step.window)[0] > 0
+}
+
+/// What the call counted as single demotions is counted as those of ranges, and the other way round.
+fn counts_as_the_other(call: &Call, step: &mut NumberedStep) {
+    let [single, range] = demotions_counted(call.header, step.window);
+    step.window.single_demotions = call.header.single_demotions.wrapping_add(range);
+    step.window.range_demotions = call.header.range_demotions.wrapping_add(single);
 }
 
 /// Whether a loss list was written, or read.
@@ -213,7 +230,82 @@ pub static FAULTS: &[Fault] = &[
     }),
     fault!("more-than-the-base-set", "header Header", |call, lent, step| {
         if taken(call, "set_base") {
-            step.window.demotions ^= 1;
+            step.window.single_demotions ^= 1;
+        }
+    }),
+    fault!("insert-counts-a-demotion", DEMOTIONS, |call, lent, step| {
+        if taken(call, "insert") {
+            raise(&mut step.window.single_demotions);
+        }
+    }),
+    fault!("exchange-counts-a-demotion", DEMOTIONS, |call, lent, step| {
+        if taken(call, "exchange") {
+            raise(&mut step.window.single_demotions);
+        }
+    }),
+    fault!("clear-counts-a-demotion", DEMOTIONS, |call, lent, step| {
+        if taken(call, "clear") {
+            raise(&mut step.window.range_demotions);
+        }
+    }),
+    fault!("a-bounded-clear-counts-a-demotion", DEMOTIONS, |call, lent, step| {
+        if taken(call, "clear_bounded") {
+            raise(&mut step.window.range_demotions);
+        }
+    }),
+    fault!("release-counts-a-demotion", DEMOTIONS, |call, lent, step| {
+        if taken(call, "host_release_retired") {
+            raise(&mut step.window.range_demotions);
+        }
+    }),
+    fault!("remove-counts-as-a-range", DEMOTIONS, |call, lent, step| {
+        if taken(call, "remove") {
+            counts_as_the_other(call, step);
+        }
+    }),
+    fault!("the-host-form-counts-as-a-range", DEMOTIONS, |call, lent, step| {
+        if taken(call, "host_remove") {
+            counts_as_the_other(call, step);
+        }
+    }),
+    fault!("front-counts-as-a-range", DEMOTIONS, |call, lent, step| {
+        if taken(call, "take_front") {
+            counts_as_the_other(call, step);
+        }
+    }),
+    fault!("a-range-counts-as-single", DEMOTIONS, |call, lent, step| {
+        if taken(call, "remove_range") {
+            counts_as_the_other(call, step);
+        }
+    }),
+    fault!("remove-counts-two", DEMOTIONS, |call, lent, step| {
+        if taken(call, "remove") && single_rose(call, step) {
+            raise(&mut step.window.single_demotions);
+        }
+    }),
+    fault!("a-range-counts-three", DEMOTIONS, |call, lent, step| {
+        if taken(call, "remove_range") && demotions_counted(call.header, step.window) == [0, 2] {
+            raise(&mut step.window.range_demotions);
+        }
+    }),
+    fault!("a-demotion-not-counted", "pages became sparse", |call, lent, step| {
+        if taken(call, "take_front") {
+            step.window.single_demotions = call.header.single_demotions;
+        }
+    }),
+    fault!("a-demotion-of-a-range-not-counted", "pages became sparse", |call, lent, step| {
+        if taken(call, "remove_range") {
+            step.window.range_demotions = call.header.range_demotions;
+        }
+    }),
+    fault!("a-single-count-that-does-not-wrap", "pages became sparse", |call, lent, step| {
+        if taken(call, "remove") && step.window.single_demotions < call.header.single_demotions {
+            step.window.single_demotions = u64::MAX;
+        }
+    }),
+    fault!("a-count-of-ranges-that-does-not-wrap", "pages became sparse", |call, lent, step| {
+        if taken(call, "remove_range") && step.window.range_demotions < call.header.range_demotions {
+            step.window.range_demotions = u64::MAX;
         }
     }),
     fault!("point-that-does-not-move", "check answers", |call, lent, step| {

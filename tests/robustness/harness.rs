@@ -36,16 +36,16 @@ mod signals;
 #[path = "../library/soundness.rs"]
 mod soundness;
 
-use arguments::{with_a_short_list, with_a_wrong_header, Arguments};
+use arguments::{in_a_dense_page, with_a_short_list, with_a_wrong_header, Arguments};
 use calls::Random;
-use contents::{break_one_clause, change, copy_about, fill, fill_around, state_before};
+use contents::{break_one_clause, change, change_demotions, copy_about, fill, fill_around, state_before};
 use counts::{Counts, Start, STARTS};
 use declared::{Header, NumberedStep, FOUND};
 use faults::Fault;
 use guarded::Mappings;
 use judge::{refused, Made};
 use memory::{Memory, BLOCKS, HEADER, LOST, PAGES, RETURNED, SEQUENCES, VALUES, WORDS};
-use operations::{Call, OCCUPIED, UNSOUND};
+use operations::{after_base, Call, OCCUPIED, UNSOUND};
 use reports::{with_list, with_places, Due};
 use signals::{again, watched, Named};
 use std::process::ExitCode;
@@ -236,6 +236,40 @@ impl<'a> List<'a> {
         Ok(())
     }
 
+    /// On a sound state: two pages in a row are filled, then dense pages thinned until they are sparse, by so many calls at most, of ranges
+    /// or of single values; half of the time with counts of demotions that wrap soon.
+    fn thin(&mut self, calls: u32) -> Result<(), String> {
+        if self.random.percent(50) {
+            change_demotions(&mut self.random, &mut self.memory);
+        }
+        let by_ranges = self.random.percent(30);
+        let first = self.random.below(1 << 25) * 64;
+        for more in 0..128 {
+            let value = self.random.any();
+            self.call_named("insert", [after_base(first, more), value, 0])?;
+        }
+        for _ in 0..calls {
+            let Some(sequence) = in_a_dense_page(&mut self.random, &mut self.memory) else {
+                return Ok(());
+            };
+            match self.random.below(3) {
+                _ if by_ranges => {
+                    // Half of the time it ends in the page after that, which then may be thinned too.
+                    let more = self.random.below(64) + self.random.pick(&[0, 64]);
+                    let more = more.min(self.memory.header.window_size - 1);
+                    self.call_named("remove_range", [sequence, after_base(sequence, more), 0])?;
+                }
+                0 => self.call_named("remove", [sequence, 0, 0])?,
+                1 => self.call_named("host_remove", [sequence, 0, 0])?,
+                _ => {
+                    self.call_named("set_base", [sequence, 0, 0])?;
+                    self.call_named("take_front", [0; 3])?;
+                }
+            }
+        }
+        Ok(())
+    }
+
     /// Memory that is not sound, of one start; from a sound state if it needs one.
     fn spoil(&mut self, start: Start, saved: &Saved) {
         self.restore(saved);
@@ -268,7 +302,10 @@ impl<'a> List<'a> {
         let (start, _) = self.random.pick(&STARTS);
         self.renew()?;
         match start {
-            Start::Sound => (0..6).try_for_each(|_| self.fill_and_retire(1000)),
+            Start::Sound => (0..6).try_for_each(|_| {
+                self.fill_and_retire(1000)?;
+                self.thin(200)
+            }),
             Start::Random(_) => self.unsound(start, 3000),
             _ => {
                 let calls = self.random.pick(&[100, 1000, 4000]);

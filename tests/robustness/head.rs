@@ -38,6 +38,10 @@ pub enum Fault {
     OtherWord,
     /// A loss is read as none, or none as a loss.
     OtherByte,
+    /// A demotion is counted under the other cause.
+    OtherCause,
+    /// A visit counts a demotion.
+    VisitDemotes,
 }
 
 crate::counted! {
@@ -71,7 +75,9 @@ crate::counted! {
         reports_short: "loss reports refused 11",
         checked: "states checked",
         promotions: "promotions",
-        demotions: "demotions",
+        demotions_by_remove: "demotions by remove",
+        demotions_by_front: "demotions by taking the front",
+        demotions_by_range: "demotions by ranges",
     }
 }
 
@@ -118,7 +124,6 @@ impl Head {
     /// The window made anew, of the same size, once it is empty.
     pub fn renew(&mut self, window: [u32; 3]) -> Result<(), String> {
         self.tally.promotions += self.memory.header.promotions;
-        self.tally.demotions += self.memory.header.demotions;
         let answer = self.make("new", window)?;
         self.base = 0;
         demand(answer.code == DONE, || format!("new {window:?} answers {answer:?}"))
@@ -152,6 +157,12 @@ impl Head {
             Some(Fault::WordLess) if written => step.answer.first -= 1,
             Some(Fault::OtherWord) if written => unsafe { *lent.starts[WORDS].cast::<u32>() ^= 1 },
             Some(Fault::OtherByte) if read => unsafe { *lent.starts[LOST] ^= 1 },
+            Some(Fault::OtherCause) => {
+                let [single, range] = demotions_counted(call.header, step.window);
+                step.window.single_demotions = call.header.single_demotions.wrapping_add(range);
+                step.window.range_demotions = call.header.range_demotions.wrapping_add(single);
+            }
+            Some(Fault::VisitDemotes) if name == "release_retired" => step.window.range_demotions += 1,
             _ => (),
         }
     }
@@ -192,7 +203,25 @@ impl Head {
             self.ledger.released(store).map_err(|why| format!("{name} {numbers:?} returned it: {why}"))?;
             self.tally.released += 1;
         }
+        if !operation.is_new() {
+            self.demoted(&call)?;
+        }
         Ok(step.answer)
+    }
+
+    /// The header's counts of demotions were raised by the call as it may; what they were raised by is tallied by its cause.
+    fn demoted(&mut self, call: &Call) -> Result<(), String> {
+        let (counted, most) = (demotions_counted(call.header, self.memory.header), call.operation.most_demotions());
+        let holds = counted.iter().zip(most).all(|(&counted, most)| counted <= most);
+        let name = call.operation.call();
+        demand(holds, || format!("{name} {:?} counts {counted:?} demotions, single and of ranges", call.numbers))?;
+        let [single, range] = counted;
+        match name {
+            "remove" => self.tally.demotions_by_remove += single,
+            "take_front" => self.tally.demotions_by_front += single,
+            _ => self.tally.demotions_by_range += range,
+        }
+        Ok(())
     }
 
     /// The header's counts are those of the ledger, its base and point those of the table.

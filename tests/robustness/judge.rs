@@ -115,6 +115,37 @@ impl Made<'_> {
         }
     }
 
+    /// On any memory: a demotion is counted under its own cause, and every other call leaves both counts, as a refused one does; but
+    /// refusal 7 may come after a demotion. The header of new is judged whole.
+    fn demotions(&self) -> Result<(), String> {
+        if self.call.operation.is_new() {
+            return Ok(());
+        }
+        let counted = demotions_counted(self.call.header, self.step.window);
+        let most = match refused(self.answer()) {
+            None | Some(UNSOUND) => self.call.operation.most_demotions(),
+            Some(_) => [0, 0],
+        };
+        let holds = counted.iter().zip(most).all(|(&counted, most)| counted <= most);
+        demand(holds, || format!("counts {counted:?} demotions, single and of ranges, at most {most:?} expected"))
+    }
+
+    /// On a sound state: each page that became sparse is counted. A range that goes round into its first page may empty it after that, so
+    /// that it counts one more.
+    fn demoted(&self) -> Result<(), String> {
+        let [single, range] = demotions_counted(self.call.header, self.step.window);
+        let most @ [most_single, most_range] = self.call.operation.most_demotions();
+        if most == [0, 0] {
+            return Ok(());
+        }
+        let named = self.call.named()[PAGES];
+        let (before, after) = (self.memory.lists[PAGES].words_before(), self.memory.lists[PAGES].now::<u64>(self.call.lengths[PAGES]));
+        let became_sparse = |page: usize| before[page] == 2 && after[page] == 1;
+        let pages = (0..named).step_by(3).filter(|&page| became_sparse(page)).count() as u64;
+        let holds = (most_single == 0 || single == pages) && (most_range == 0 || (pages..=pages + 1).contains(&range));
+        demand(holds, || format!("counts {:?} demotions, {pages} pages became sparse", [single, range]))
+    }
+
     fn count(&self) -> Result<(), String> {
         let NumberedStep { count, .. } = *self.step;
         let most = match refused(self.answer()) {
@@ -213,6 +244,7 @@ impl Made<'_> {
         self.readable()?;
         self.decided()?;
         self.header()?;
+        self.demotions()?;
         self.count()?;
         self.lists()?;
         self.emptied()?;
@@ -220,6 +252,7 @@ impl Made<'_> {
         if self.sound && self.refusal.is_none() && refused(self.answer()).is_none() && !self.call.operation.is_new() {
             self.conserved()?;
             self.numbers()?;
+            self.demoted()?;
         }
         Ok(())
     }

@@ -193,6 +193,15 @@ impl Operation {
         }
     }
 
+    /// By how much it may raise single_demotions, and range_demotions, at most: a range ends in two pages of which it takes a part.
+    pub fn most_demotions(&self) -> [u64; 2] {
+        match self.call() {
+            "remove" | "take_front" => [1, 0],
+            "remove_range" => [0, 2],
+            _ => [0, 0],
+        }
+    }
+
     /// It writes no list of the window, and leaves the header.
     pub fn keeps_window(&self) -> bool {
         (self.writes.is_empty() || self.is_report()) && self.numbers != Numbers::Base
@@ -227,6 +236,14 @@ pub fn is_wide(number: u32) -> bool {
 /// The sequence so many after a base.
 pub fn after_base(base: u32, steps: u32) -> u32 {
     base.wrapping_add(steps) & 0x7fff_ffff
+}
+
+/// By how much a call raised single_demotions, and range_demotions, which wrap.
+pub fn demotions_counted(before: Header, after: Header) -> [u64; 2] {
+    [
+        after.single_demotions.wrapping_sub(before.single_demotions),
+        after.range_demotions.wrapping_sub(before.range_demotions),
+    ]
 }
 
 /// The positions of a range.

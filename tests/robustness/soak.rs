@@ -87,7 +87,7 @@ fn season(seed: u64, mappings: &mut Mappings, totals: &mut Totals, fault: Option
 }
 
 /// Each wrong end of a call, and words of what is said of it.
-const FAULTS: [(Fault, &str); 12] = [
+const FAULTS: [(Fault, &str); 14] = [
     (Fault::Twice, "is Free, not Retired"),
     (Fault::Never, "the ledger's"),
     (Fault::Another, "not Retired"),
@@ -100,6 +100,8 @@ const FAULTS: [(Fault, &str); 12] = [
     (Fault::WordLess, "write_losses"),
     (Fault::OtherWord, "write_losses"),
     (Fault::OtherByte, "read_losses"),
+    (Fault::OtherCause, "demotions"),
+    (Fault::VisitDemotes, "demotions"),
 ];
 
 fn self_test() -> Result<String, String> {

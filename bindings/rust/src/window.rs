@@ -293,9 +293,19 @@ impl<'m> Window<'m> {
         self.header.promotions
     }
 
-    /// Pages that became sparse again, modulo 2^64.
+    /// Pages that became sparse again, modulo 2^64: the sum of [`Window::single_demotions`] and [`Window::range_demotions`].
     pub fn demotions(&self) -> u64 {
-        self.header.demotions
+        self.single_demotions().wrapping_add(self.range_demotions())
+    }
+
+    /// Pages that became sparse again because [`Window::remove`] or [`Window::take_front`] took a value from them, modulo 2^64.
+    pub fn single_demotions(&self) -> u64 {
+        self.header.single_demotions
+    }
+
+    /// Pages that became sparse again because [`Window::remove_range`] took values from them, modulo 2^64.
+    pub fn range_demotions(&self) -> u64 {
+        self.header.range_demotions
     }
 
     /// As given to `new`.

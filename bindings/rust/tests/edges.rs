@@ -1,5 +1,5 @@
-//! The starred edge cases of document 01, those of the base and its point and of loss reports, and what the interface itself adds: lengths,
-//! short lists, the iterator.
+//! The starred edge cases of document 01, those of the base and its point, of loss reports and of demotions by cause, and what the
+//! interface itself adds: lengths, short lists, the iterator.
 
 use packet_window::*;
 
@@ -380,6 +380,143 @@ fn lists_of_no_set_of_losses() {
     for (words, count) in [(&[2, 3][..], 2), (&[RUN | 2, 4], 3), (&[RUN, 9], 10), (&[0, 2, 3, RUN | 5, 9], 8), (&[9], 1)] {
         assert_eq!(w.read_losses(0, 9, words, &mut lost), Ok(count), "{words:?}");
     }
+}
+
+/// A window of 256 with N 4 and demote_at 2, and these sequences: a page of more than 4 is dense, and one left with 2 becomes sparse.
+fn thinned_at_2(memory: &mut OwnedMemory, sequences: impl IntoIterator<Item = u32>) -> Window<'_> {
+    let mut w = Window::new(memory.lend(), 256, 4, 2).expect("within the limits");
+    for sequence in sequences {
+        enter(&mut w, sequence, sequence);
+    }
+    w
+}
+
+/// Demotions: single, of ranges, all.
+fn demotions(w: &Window) -> [u64; 3] {
+    [w.single_demotions(), w.range_demotions(), w.demotions()]
+}
+
+#[test]
+fn demotions_by_remove() {
+    let mut memory = OwnedMemory::new(256);
+    let mut w = thinned_at_2(&mut memory, 0..8);
+    assert_eq!((w.promotions(), demotions(&w)), (1, [0, 0, 0]));
+    for (sequence, single) in [(0, 0), (1, 0), (2, 0), (2, 0), (3, 0), (4, 0), (5, 1), (5, 1), (6, 1), (7, 1)] {
+        assert!(w.remove(sequence).is_ok());
+        assert_eq!(demotions(&w), [single, 0, single], "remove {sequence}, {} left", w.len());
+    }
+    assert_eq!((w.len(), w.remove(1 << 31), demotions(&w)), (0, Err(Refusal::Sequence), [1, 0, 1]));
+}
+
+#[test]
+fn demotions_by_take_front() {
+    let mut memory = OwnedMemory::new(256);
+    let mut w = thinned_at_2(&mut memory, 64..72);
+    assert_eq!((w.take_front(), demotions(&w)), (Ok(None), [0, 0, 0]));
+    assert_eq!((w.set_base(64), demotions(&w)), (Ok(()), [0, 0, 0]));
+    for left in (0..8).rev() {
+        assert_eq!(w.take_front(), Ok(Some(71 - left)));
+        let single = u64::from(left <= 2);
+        assert_eq!(demotions(&w), [single, 0, single], "{left} left");
+    }
+    assert_eq!((w.take_front(), demotions(&w)), (Ok(None), [1, 0, 1]));
+}
+
+/// The sequences 56 to 71, eight in each of two pages, both dense; a range takes a part of each.
+#[test]
+fn demotions_by_remove_range() {
+    for (first, last, range) in [
+        (60, 67, 0), // four left in each
+        (58, 67, 1), // two left in the first
+        (60, 69, 1), // two left in the second
+        (58, 69, 2), // two left in each
+        (56, 69, 1), // the first emptied, two left in the second
+        (58, 71, 1), // two left in the first, the second emptied
+        (56, 71, 0), // both emptied
+        (58, 63, 1), // one page alone
+        (72, 80, 0), // nothing there
+    ] {
+        let mut memory = OwnedMemory::new(256);
+        let mut w = thinned_at_2(&mut memory, 56..72);
+        assert_eq!((w.promotions(), demotions(&w)), (2, [0, 0, 0]));
+        assert!(w.remove_range(first, last).answer.is_ok());
+        assert_eq!(demotions(&w), [0, range, range], "{first} to {last}");
+        assert_eq!(w.remove_range(0, 256).answer, Err(Refusal::RangeCount));
+        assert_eq!(demotions(&w), [0, range, range], "{first} to {last}, then a refused one");
+    }
+}
+
+/// Document 01 lets each stretch of such a range test by itself: the first leaves two, the second takes them.
+#[test]
+fn a_demotion_by_a_range_that_goes_round_into_its_page() {
+    let mut memory = OwnedMemory::new(64);
+    let mut w = Window::new(memory.lend(), 64, 4, 2).expect("within the limits");
+    for sequence in [0, 1, 58, 59, 60, 61, 62, 63] {
+        enter(&mut w, sequence, sequence);
+    }
+    assert_eq!((w.remove_range(58, 65).answer, w.len(), demotions(&w)), (Ok(8), 0, [0, 1, 1]));
+}
+
+#[test]
+fn an_emptied_page_is_no_demotion() {
+    let mut memory = OwnedMemory::new(256);
+    let mut w = thinned_at_2(&mut memory, (0..8).chain(66..74).chain(128..136));
+    assert_eq!((w.remove_range(65, 80).answer, demotions(&w)), (Ok(8), [0, 0, 0])); // a part of a page, with all its values
+    assert_eq!((w.remove_range(128, 191).answer, demotions(&w)), (Ok(8), [0, 0, 0])); // a whole page
+    assert_eq!((w.clear().answer, w.len(), demotions(&w)), (Ok(()), 0, [0, 0, 0]));
+    assert_eq!((w.promotions(), w.check()), (3, Ok(())));
+    // With a demote_at of 0 single removals empty a dense page.
+    let mut w = Window::new(memory.lend(), 256, 4, 0).expect("within the limits");
+    (0..8).for_each(|sequence| enter(&mut w, sequence, sequence));
+    assert!((0..8).all(|sequence| w.remove(sequence) == Ok(Some(sequence))));
+    assert_eq!((w.promotions(), w.len(), demotions(&w)), (1, 0, [0, 0, 0]));
+}
+
+#[test]
+fn calls_that_demote_no_page_leave_both_counts() {
+    let mut memory = OwnedMemory::new(256);
+    let mut w = thinned_at_2(&mut memory, (56..72).chain(128..136));
+    assert_eq!((w.remove_range(58, 69).answer, demotions(&w)), (Ok(12), [0, 2, 2]));
+    assert!((128..134).all(|sequence| w.remove(sequence) == Ok(Some(sequence))));
+    assert_eq!(demotions(&w), [1, 2, 3]);
+    enter(&mut w, 60, 60);
+    assert_eq!((w.insert(60, 61).answer, w.exchange(60, 62)), (Ok(Inserted::Replaced(60)), Ok(Some(61))));
+    assert_eq!((w.get(60), w.first_from(60), w.successor_after(60)), (Ok(Some(62)), Ok(Some(60)), Ok(Some(70))));
+    assert_eq!((w.set_base(60), w.stranger(0, 255), w.iter().count(), w.check()), (Ok(()), Ok(None), 7, Ok(())));
+    assert_eq!(w.write_losses(60, 60, &mut []), Ok([].as_slice()));
+    assert_eq!((w.clear_bounded(1).answer, w.release_retired(256).answer.is_ok(), w.clear().answer), (Ok(1), true, Ok(())));
+    assert_eq!((w.is_released(), demotions(&w)), (true, [1, 2, 3]));
+}
+
+/// A count of 2^64 - 1 is followed by 0; the other stays, and the sum wraps as well.
+#[test]
+fn counts_of_demotions_wrap() {
+    const MOST: u64 = u64::MAX;
+    let at = |memory: &mut OwnedMemory, single: u64, range: u64, demote: fn(&mut Window)| {
+        let (mut header, memory) = thinned_at_2(memory, 56..72).into_parts();
+        (header.single_demotions, header.range_demotions) = (single, range);
+        let mut w = Window::from_parts(header, memory).expect("a sound state");
+        assert_eq!(demotions(&w), [single, range, single.wrapping_add(range)]);
+        demote(&mut w);
+        assert_eq!(w.check(), Ok(()));
+        demotions(&w)
+    };
+    let remove: fn(&mut Window) = |w| assert!((56..62).all(|sequence| w.remove(sequence) == Ok(Some(sequence))));
+    let front: fn(&mut Window) = |w| {
+        assert_eq!(w.set_base(56), Ok(()));
+        assert!((56..62).all(|sequence| w.take_front() == Ok(Some(sequence))));
+    };
+    let range: fn(&mut Window) = |w| assert_eq!(w.remove_range(58, 69).answer, Ok(12)); // two demotions
+    let mut memory = OwnedMemory::new(256);
+    for single in [remove, front] {
+        assert_eq!(at(&mut memory, MOST, 5, single), [0, 5, 5]);
+        assert_eq!(at(&mut memory, MOST, MOST, single), [0, MOST, MOST]);
+        assert_eq!(at(&mut memory, 5, MOST, single), [6, MOST, 5]);
+    }
+    assert_eq!(at(&mut memory, 5, MOST, range), [5, 1, 6]);
+    assert_eq!(at(&mut memory, 5, MOST - 1, range), [5, 0, 5]);
+    assert_eq!(at(&mut memory, MOST, MOST, range), [MOST, 1, 0]);
+    assert_eq!(at(&mut memory, MOST, 5, range), [MOST, 7, 6]);
 }
 
 /// The parts of a window of 100 with three live values.

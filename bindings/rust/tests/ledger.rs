@@ -133,7 +133,8 @@ struct Run<'m> {
 #[derive(Default)]
 struct Seen {
     promotions: u64,
-    demotions: u64,
+    single_demotions: u64,
+    range_demotions: u64,
     refused: u64,
     replaced: u64,
     strangers: u64,
@@ -366,7 +367,8 @@ impl Run<'_> {
 impl Seen {
     fn add(&mut self, other: &Self, window: &Window) {
         self.promotions += window.promotions();
-        self.demotions += window.demotions();
+        self.single_demotions += window.single_demotions();
+        self.range_demotions += window.range_demotions();
         self.refused += other.refused;
         self.replaced += other.replaced;
         self.strangers += other.strangers;
@@ -403,7 +405,8 @@ fn runs(seeds: std::ops::RangeInclusive<u64>, window_sizes: &[u32], calls: u32) 
     for (seed, &window_size) in seeds.zip(window_sizes.iter().cycle()) {
         run(seed, window_size, calls, &mut seen);
     }
-    assert!(seen.promotions > 0 && seen.demotions > 0 && seen.refused > 0 && seen.replaced > 0);
+    assert!(seen.promotions > 0 && seen.single_demotions > 0 && seen.range_demotions > 0);
+    assert!(seen.refused > 0 && seen.replaced > 0);
     assert!(seen.fronts > 0 && seen.wide > 0 && seen.furthest_point > 10);
     assert!(seen.strangers > 0 && seen.most_retired > 0 && seen.returned_by_insert > 0 && seen.returned_by_release > 0);
 }

@@ -59,7 +59,8 @@ fn make(window: &mut Window, call: Call) -> Said {
 /// The line of a call: letter, answer, the window's counts, values. No window has counts of 0.
 fn line_of(letter: char, (answer, values): Said, header: Header) -> String {
     let answer = answer.unwrap_or_else(|refusal| format!("!{}", refusal.number()));
-    let Header { len, retired_held, promotions, demotions, .. } = header;
+    let Header { len, retired_held, promotions, single_demotions, range_demotions, .. } = header;
+    let demotions = single_demotions.wrapping_add(range_demotions);
     let mut line = format!("{letter}\t{answer}\t{len}\t{retired_held}\t{promotions}\t{demotions}");
     for value in values {
         write!(line, "\t{value}").expect("a string takes it");

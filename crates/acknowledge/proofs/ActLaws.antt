@@ -49,7 +49,8 @@ module _ (c : Call) (u : State) (l : List ℕ) (r : Left) (a : Admitted c u l r)
     «nonempty_summary» = v .«nonempty_summary»;
     «retired_blocks» = v .«retired_blocks»;
     promotions = v .promotions;
-    demotions = v .demotions;
+    «single_demotions» = v .«single_demotions»;
+    «range_demotions» = v .«range_demotions»;
   }
 
   -- what works out the point of the window works out the point of the header

@@ -70,7 +70,8 @@ withSizes v w = record {
   «nonempty_summary» = v .«nonempty_summary»;
   «retired_blocks» = v .«retired_blocks»;
   promotions = v .promotions;
-  demotions = v .demotions;
+  «single_demotions» = v .«single_demotions»;
+  «range_demotions» = v .«range_demotions»;
 }
 
 -- a point `reach` from its base stays for a base that is d on; if not, the advance is from this distance on

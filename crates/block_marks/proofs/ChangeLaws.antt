@@ -8,6 +8,8 @@ use lib.Dec.{eqb}
 use borrow.Author.Tests.{eq-eqb, ne-eqb}
 use Rattle.words.specs.Word.{isSet, withBit, clearBit}
 use Rattle.window.specs.declared.AdaptiveReceiverPacketWindow.{AdaptiveReceiverPacketWindow}
+use Rattle.window.specs.declared.Cause.{Cause}
+use Rattle.window.specs.declared.Cause.the-variants.{Single, Range}
 use Rattle.model.specs.Demand3.{one}
 use Rattle.model.specs.Window.{Window, window, upd}
 use Rattle.model.specs.Steps.{setLen, setSummary, setRetiredBlocks, setPromotions, setDemotions, setNonempty, setRetired, setLive, withHeader, withBlock, noteNonempty, countPromotion, countDemotion, dropBlockMarks, splitBlock}
@@ -92,8 +94,15 @@ module _ (h : AdaptiveReceiverPacketWindow) where
   pub counts-promotion : (n : ℕ) → n ≡ (h .promotions + 1) % 2 ^ 64 → ChangesHeader (λ (v : Window). countPromotion v true) h (setPromotions h n)
   counts-promotion n p = record { gives = λ v e. rw p (λ i. withHeader v (setPromotions (sym e i) ((sym e i .promotions + 1) % 2 ^ 64))) }
 
-  pub counts-demotion : (n : ℕ) → n ≡ (h .demotions + 1) % 2 ^ 64 → ChangesHeader (λ (v : Window). countDemotion v true) h (setDemotions h n)
-  counts-demotion n p = record { gives = λ v e. rw p (λ i. withHeader v (setDemotions (sym e i) ((sym e i .demotions + 1) % 2 ^ 64))) }
+  pub counts-single : (c : Cause) (n : ℕ) → c ≡ Single → n ≡ (h .«single_demotions» + 1) % 2 ^ 64
+      → ChangesHeader (λ (v : Window). countDemotion c v true) h (setDemotions h n (h .«range_demotions»))
+  counts-single c n s p =
+      record { gives = λ v e. rw (s, p) (λ i. withHeader v (setDemotions (sym e i) ((sym e i .«single_demotions» + 1) % 2 ^ 64) (sym e i .«range_demotions»))) }
+
+  pub counts-range : (c : Cause) (n : ℕ) → c ≡ Range → n ≡ (h .«range_demotions» + 1) % 2 ^ 64
+      → ChangesHeader (λ (v : Window). countDemotion c v true) h (setDemotions h (h .«single_demotions») n)
+  counts-range c n s p =
+      record { gives = λ v e. rw (s, p) (λ i. withHeader v (setDemotions (sym e i) (sym e i .«single_demotions») ((sym e i .«range_demotions» + 1) % 2 ^ 64))) }
 
   pub drops-marks : eqb (h .«retired_held») 0 ≡ true → ChangesHeader dropBlockMarks h (setRetiredBlocks h 0)
   drops-marks t = record {

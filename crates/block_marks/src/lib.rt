@@ -3,6 +3,7 @@
 pub mod marks;
 
 use window::AdaptiveReceiverPacketWindow;
+use window::Cause;
 use window::memory::BLOCK_WORDS;
 ghost use mathlib.Core.Path.{_≡_};
 ghost use mathlib.Core.Bool.{true};
@@ -120,11 +121,18 @@ pub fn count_promotion(w: AdaptiveReceiverPacketWindow) -> AdaptiveReceiverPacke
     window
 }
 
-// One demotion more, modulo 2^64.
-pub fn count_demotion(w: AdaptiveReceiverPacketWindow) -> AdaptiveReceiverPacketWindow
-    ensures { λ r. ⌜ ChangesHeader (λ v. countDemotion v true) w r ⌝ }
+// One demotion more under its cause, modulo 2^64.
+pub fn count_demotion(w: AdaptiveReceiverPacketWindow, cause: Cause) -> AdaptiveReceiverPacketWindow
+    ensures { λ r. ⌜ ChangesHeader (λ v. countDemotion cause v true) w r ⌝ }
 {
     let mut window = w;
-    window.demotions = std::num::wrapping_add_u64(w.demotions, 1);
+    match cause {
+        Cause::Single => {
+            window.single_demotions = std::num::wrapping_add_u64(w.single_demotions, 1);
+        }
+        Cause::Range => {
+            window.range_demotions = std::num::wrapping_add_u64(w.range_demotions, 1);
+        }
+    }
     window
 }

@@ -11,7 +11,7 @@ use Rattle.words.proofs.CaseLaws.{bool}
 use Rattle.words.specs.Word.{bitAt, isSet, withBit, setBit}
 use Rattle.words.proofs.ChangeLaws.{with-own, with-other}
 use Rattle.model.specs.Window.{Window, upd}
-use Rattle.model.specs.Steps.{headerWith, setLive, retireBlock}
+use Rattle.model.specs.Steps.{retiringHeader, setLive, retireBlock}
 use Rattle.block_retire.specs.Retire.{retireEach}
 use Rattle.block_retire.specs.Contracts.{Counted}
 
@@ -45,7 +45,7 @@ module _ (w : Window) (b : ℕ) where
       let held : w .header .«retired_held» + k ≡ w .header .«retired_held» = omega (arith, z) in
       let live : w .blocks b .live - k ≡ w .blocks b .live = omega (arith, z) in
       λ i. record {
-        header = headerWith (w .header) (len i) (held i) (w .header .«release_cursor») (w .header .«nonempty_summary») (bits i) (w .header .promotions) (w .header .demotions);
+        header = retiringHeader (w .header) (len i) (held i) (bits i);
         pages = w .pages;
         blocks = λ d. same (w .blocks b .live - k) live d i;
       }

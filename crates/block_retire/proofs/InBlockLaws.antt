@@ -15,7 +15,7 @@ use Rattle.words.proofs.CountLaws.{count-le}
 use Rattle.model.specs.Table.{sum}
 use Rattle.model.specs.Window.{Page, Block, Window, window, upd}
 use Rattle.model.specs.Pages.{valuesIn}
-use Rattle.model.specs.Steps.{headerWith, setRetired, setLive, setMarks, splitBlock, pagesIn, newMarks, retireLive, retireInBlock, retireBlock}
+use Rattle.model.specs.Steps.{retiringHeader, setRetired, setLive, setMarks, splitBlock, pagesIn, newMarks, retireLive, retireInBlock, retireBlock}
 use Rattle.laws_soundness.proofs.SumLaws.{sum-le}
 use Rattle.block_retire.specs.Retire.{retireEach}
 use Rattle.block_retire.specs.Contracts.{Counted}
@@ -79,12 +79,12 @@ upd-comm f a b x y n d = elim (ℕ-discrete d a) [
 marks-retired : (u : Window) (b word k : ℕ) →
     let h = u .header in
     retireLive (setMarks u b word) b k
-    ≡ window (headerWith h (h .len - k) (h .«retired_held» + k) (h .«release_cursor») (h .«nonempty_summary») (h .«retired_blocks») (h .promotions) (h .demotions))
+    ≡ window (retiringHeader h (h .len - k) (h .«retired_held» + k) (h .«retired_blocks»))
     (u .pages) (upd (u .blocks) b (setLive (setRetired (u .blocks b) word) (u .blocks b .live - k)))
 marks-retired u b word k =
     let h = u .header in
     let x = setRetired (u .blocks b) word in
-    let g = headerWith h (h .len - k) (h .«retired_held» + k) (h .«release_cursor») (h .«nonempty_summary») (h .«retired_blocks») (h .promotions) (h .demotions) in
+    let g = retiringHeader h (h .len - k) (h .«retired_held» + k) (h .«retired_blocks») in
     ap (λ (y : Block). window g (u .pages) (upd (upd (u .blocks) b x) b (setLive y (y .live - k)))) (upd-same (u .blocks) b x)
     ∙ (λ i. window g (u .pages) (λ d. upd-again (u .blocks) b x (setLive x (x .live - k)) d i))
 
@@ -99,7 +99,7 @@ module _ (w : Window) (b : ℕ) where
   abbrev splitHere : Window
   splitHere =
       let h = w .header in
-      window (headerWith h (h .len) (h .«retired_held») (h .«release_cursor») (h .«nonempty_summary») (clearBit rb b) (h .promotions) (h .demotions))
+      window (retiringHeader h (h .len) (h .«retired_held») (clearBit rb b))
       (w .pages) (upd (w .blocks) b x)
 
   clear-own : isSet (w .header .«retired_blocks») b ≡ false → w .header .«retired_blocks» ≡ clearBit (w .header .«retired_blocks») b
@@ -116,7 +116,7 @@ module _ (w : Window) (b : ℕ) where
       rw e
       (λ i.
       let h = w .header in
-      window (headerWith h (h .len) (h .«retired_held») (h .«release_cursor») (h .«nonempty_summary») (clear-own e i) (h .promotions) (h .demotions))
+      window (retiringHeader h (h .len) (h .«retired_held») (clear-own e i))
       (w .pages) (λ d. sym (upd-own (w .blocks) b d) i)))
 
 module _ (w : Window) (from to b : ℕ) where
@@ -129,7 +129,7 @@ module _ (w : Window) (from to b : ℕ) where
   abbrev pub inBlock : Window
   inBlock =
       let h = w .header in
-      window (headerWith h (h .len - valuesHere) (h .«retired_held» + valuesHere) (h .«release_cursor») (h .«nonempty_summary») (clearBit (h .«retired_blocks») b) (h .promotions) (h .demotions))
+      window (retiringHeader h (h .len - valuesHere) (h .«retired_held» + valuesHere) (clearBit (h .«retired_blocks») b))
       (w .pages) (upd (w .blocks) b blockHere)
 
   -- the marks and the count that a split block's words give
@@ -142,7 +142,7 @@ module _ (w : Window) (from to b : ℕ) where
   abbrev made : Block → Window
   made y =
       let h = w .header in
-      window (headerWith h (h .len - many y) (h .«retired_held» + many y) (h .«release_cursor») (h .«nonempty_summary») (clearBit (h .«retired_blocks») b) (h .promotions) (h .demotions))
+      window (retiringHeader h (h .len - many y) (h .«retired_held» + many y) (clearBit (h .«retired_blocks») b))
       (w .pages) (upd (upd (w .blocks) b (x w b)) b (setLive (setRetired y (wordOf (λ (i : ℕ). isSet (y .retired) i || new y i))) (y .live - many y)))
 
   pub in-block-is : retireInBlock w from to b ≡ inBlock
@@ -190,7 +190,7 @@ module _ (w : Window) (from to a b : ℕ) (apart : a ≡ b → ⊥) where
   abbrev both : Block → ℕ → Window
   both y live =
       let h = w .header in
-      window (headerWith h (h .len - live - k) (h .«retired_held» + live + k) (h .«release_cursor») (h .«nonempty_summary») (clearBit (setBit marks a) b) (h .promotions) (h .demotions))
+      window (retiringHeader h (h .len - live - k) (h .«retired_held» + live + k) (clearBit (setBit marks a) b))
       (w .pages) (upd (upd (w .blocks) a (setLive (w .blocks a) (w .blocks a .live - live))) b y)
 
   first-a : retireInBlock (retireBlock w a) from to b ≡ both (blockHere w from to b) l
@@ -200,7 +200,7 @@ module _ (w : Window) (from to a b : ℕ) (apart : a ≡ b → ⊥) where
       ∙ (λ i.
       let h = w .header in
       let q = newValues (w .pages) (block-kept i) (mark-kept i) from to b in
-      window (headerWith h (h .len - l - q) (h .«retired_held» + l + q) (h .«release_cursor») (h .«nonempty_summary») (clearBit (setBit marks a) b) (h .promotions) (h .demotions))
+      window (retiringHeader h (h .len - l - q) (h .«retired_held» + l + q) (clearBit (setBit marks a) b))
       (w .pages) (upd (retireBlock w a .blocks) b (newBlock (w .pages) (block-kept i) (mark-kept i) from to b)))
 
   first-b : retireBlock (inBlock w from to b) a ≡ both (blockHere w from to b) l
@@ -211,9 +211,9 @@ module _ (w : Window) (from to a b : ℕ) (apart : a ≡ b → ⊥) where
       let own : y a ≡ w .blocks a = rw (ne-eqb a b apart) in
       let len : h .len - k - l ≡ h .len - l - k = omega arith in
       let held : h .«retired_held» + k + l ≡ h .«retired_held» + l + k = omega arith in
-      ap (λ (z : Block). window (headerWith h (h .len - k - z .live) (h .«retired_held» + k + z .live) (h .«release_cursor») (h .«nonempty_summary») (setBit (clearBit marks b) a) (h .promotions) (h .demotions)) (w .pages) (upd y a (setLive z (z .live - z .live)))) own
+      ap (λ (z : Block). window (retiringHeader h (h .len - k - z .live) (h .«retired_held» + k + z .live) (setBit (clearBit marks b) a)) (w .pages) (upd y a (setLive z (z .live - z .live)))) own
       ∙ (λ i.
-      window (headerWith h (len i) (held i) (h .«release_cursor») (h .«nonempty_summary») (with-comm marks b 0 a 1 (omega arith) (omega arith) (λ e. apart (sym e)) i) (h .promotions) (h .demotions))
+      window (retiringHeader h (len i) (held i) (with-comm marks b 0 a 1 (omega arith) (omega arith) (λ e. apart (sym e)) i))
       (w .pages) (λ d. upd-comm (w .blocks) b a (blockHere w from to b) (setLive (w .blocks a) (l - l)) (λ e. apart (sym e)) d i))
 
   -- block a retired with one bit, before or after pages of block b

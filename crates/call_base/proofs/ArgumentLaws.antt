@@ -7,12 +7,19 @@ use borrow.Author.Tests.{le-leb, lt-leb}
 use Rattle.window.specs.Refusals.{isWireNumber}
 use Rattle.model.specs.Table.{rangeCount, Known, first, limitRefusal, areWireNumbers, refusedFor}
 use Rattle.call_base.specs.declared.admits.Arguments.{Arguments}
-use Rattle.call_base.specs.declared.admits.Arguments.the-variants.{Sequence, Range, Number, Base}
+use Rattle.call_base.specs.declared.admits.Arguments.the-variants.{Nothing, Sequence, Range, Number, Base}
 use Rattle.call_base.specs.Admits.{argumentsOf}
 
 -- what the arguments a are refused with for a limit, tested on k
 abbrev asked : Known → Arguments → ℕ
 asked k a = limitRefusal k (argumentsOf a)
+
+-- no limit on nothing, and none on a sequence
+pub nothing-taken : (k : Known) (a : Arguments) → a ≡ Nothing → 0 ≡ limitRefusal k (argumentsOf a)
+nothing-taken k a e = ap (asked k) (sym e)
+
+pub sequence-taken : (k : Known) (a : Arguments) (s : ℕ) → a ≡ Sequence s → 0 ≡ limitRefusal k (argumentsOf a)
+sequence-taken k a s e = ap (asked k) (sym e)
 
 pub range-refused : (k : Known) (a : Arguments) (x y n : ℕ) → a ≡ Range x y → n ≡ rangeCount x y → k .size < n → 5 ≡ limitRefusal k (argumentsOf a)
 range-refused k a x y n e c l = sym (ap (λ (t : Bool). first 5 t 0) (ap (λ (j : ℕ). leb j (k .size)) (sym c) ∙ lt-leb n (k .size) l)) ∙ ap (asked k) (sym e)

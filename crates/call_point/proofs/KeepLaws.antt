@@ -5,11 +5,13 @@ use mathlib.Core.List.{List}
 use Prim.Native.Nat.{ℕ, _/_}
 use native.Mathlib.Omega.{arith}
 use Rattle.window.specs.declared.AdaptiveReceiverPacketWindow.{AdaptiveReceiverPacketWindow}
+use Rattle.window.specs.declared.Cause.the-variants.{Single}
 use Rattle.window.specs.declared.answers.Answer.{Answer}
 use Rattle.window.specs.declared.answers.Answer.the-variants as answer
 use Rattle.window.specs.declared.answers.Step.{Step}
 use Rattle.model.specs.Calls.{new}
 use Rattle.model.specs.Steps.{isNew}
+use Rattle.page_base.specs.declared.Left.{Left}
 use Rattle.page_base.specs.declared.PageWords.{PageWords}
 use Rattle.page_base.specs.declared.find.Read.{Read}
 use Rattle.page_base.specs.declared.find.Read.the-variants.{Absent, Value}
@@ -19,7 +21,7 @@ use Rattle.page_insert.specs.Insert as page
 use Rattle.block_marks.specs.declared.Change.{Change}
 use Rattle.block_marks.specs.Blocks.{blockWordsAt}
 use Rattle.page_store.specs.Contracts as updates
-use Rattle.page_store.specs.Contracts.{Stores, holds}
+use Rattle.page_store.specs.Contracts.{Stores}
 use Rattle.page_store.proofs.StoreLaws.{stored-pages, stored-blocks, pages-past, blocks-past}
 use Rattle.page_release.specs.Contracts.{Within}
 use Rattle.call_base.specs.Answers.{answerOf, replied}
@@ -72,22 +74,22 @@ module _ (h : AdaptiveReceiverPacketWindow) (pages blocks : List ℕ) (g : ℕ) 
 
   -- ---- a removal
 
-  module _ (w : PageWords) (demoted : Bool) (x : Read) (r : Step) where
+  module _ (w : PageWords) (left : Left) (x : Read) (r : Step) where
     -- it took value v out: the words of the page and of its block were written
     pub found-keeps : (v : ℕ) (win : AdaptiveReceiverPacketWindow) (pages′ blocks′ : List ℕ) → x ≡ Value v → r ≡ replied win (answer.Found v)
-        → Stores (updates.Removed h (blockWordsAt blocks (g / 64)) g (holds w) demoted 1) pages blocks g w win pages′ blocks′
-        → KeepsRemoved h pages blocks g w demoted x r pages′ blocks′
+        → Stores (updates.Removed h (blockWordsAt blocks (g / 64)) g left Single 1) pages blocks g w win pages′ blocks′
+        → KeepsRemoved h pages blocks g w left x r pages′ blocks′
     found-keeps v win pages′ blocks′ e q t = record {
       within = stored-within _ w win pages′ blocks′ t;
       answer = ap (λ (y : Step). answerOf (y .answer .answer)) q ∙ sym (ap readAnswer e);
       count = ap (λ (y : Step). y .answer .count) q;
       found = λ u f.
-          subst (λ (y : Step). Stores (updates.Removed h (blockWordsAt blocks (g / 64)) g (holds w) demoted 1) pages blocks g w (y .window) pages′ blocks′) (sym q) t;
+          subst (λ (y : Step). Stores (updates.Removed h (blockWordsAt blocks (g / 64)) g left Single 1) pages blocks g w (y .window) pages′ blocks′) (sym q) t;
       absent = λ f. absurd (not-both x v e f);
     }
 
     -- it found none: nothing was written
-    pub absent-keeps : x ≡ Absent → r ≡ replied h answer.Absent → KeepsRemoved h pages blocks g w demoted x r pages blocks
+    pub absent-keeps : x ≡ Absent → r ≡ replied h answer.Absent → KeepsRemoved h pages blocks g w left x r pages blocks
     absent-keeps e q = record {
       within = same-within;
       answer = ap (λ (y : Step). answerOf (y .answer .answer)) q ∙ sym (ap readAnswer e);

@@ -9,6 +9,7 @@ use lib.ListN.{length, take, drop}
 use borrow.Rule.Slice.PartMut.{putMid}
 use Rattle.words.proofs.CaseLaws.{bool}
 use Rattle.window.specs.declared.AdaptiveReceiverPacketWindow.{AdaptiveReceiverPacketWindow}
+use Rattle.window.specs.declared.Cause.the-variants.{Single}
 use Rattle.window.specs.declared.answers.Answer.the-variants.{Absent}
 use Rattle.window.specs.declared.answers.Step.{Step}
 use Rattle.window.specs.Memory.{Memory, memory, position, pageCount}
@@ -30,10 +31,10 @@ use Rattle.page_base.proofs.LentPartLaws.{lent-both}
 use Rattle.page_remove.specs.declared.Removed.{Removed}
 use Rattle.page_remove.specs.Remove.{RemovedPage, removedOf, removePage}
 use Rattle.page_remove.specs.Contracts.{Removes}
-use Rattle.page_remove.proofs.RemoveLaws.{remove-when-found, remove-when-absent, remove-answer}
+use Rattle.page_remove.proofs.RemoveLaws.{remove-when-found, remove-when-absent, remove-answer, removed-told}
 use Rattle.block_marks.specs.Blocks.{changed}
 use Rattle.block_marks.proofs.BlockLaws.{block-at}
-use Rattle.page_store.specs.Contracts.{afterRemove}
+use Rattle.page_store.specs.Contracts.{afterRemove, anyLeft}
 use Rattle.page_store.proofs.StoreLaws.{change}
 use Rattle.call_base.specs.Answers.{answerOf, replied, stateOf, leftOf}
 use Rattle.call_base.specs.Contracts.{Reachable, Admitted}
@@ -103,12 +104,12 @@ module _ (h : AdaptiveReceiverPacketWindow) (m : Memory) (fit : FitsIn h m) (s p
   module _ (n : k ≡ 0 → ⊥) where
     -- what the step does, by what the page gives
     step-found : Sound (decode h m) → finds s (standsAt here (s % 64)) ≡ true
-        → removeStep (decode h m) s .after ≡ afterRemove (withPage (decode h m) g (removePage d here s .page)) g (removePage d here s .demoted) 1
+        → removeStep (decode h m) s .after ≡ afterRemove (withPage (decode h m) g (removePage d here s .page)) g Single (removePage d here s .left .demoted) 1
     unfolding removeStep decode
     step-found ok t =
         rw (there h m fit s p k e reach n ok, t, remove-when-found here s d t)
-        (ap (λ (q : ℕ). countDemotion (putPage (subLive (decode h m) (q / 64 / 64) 1) (q / 64) (afterRemoval d (takeCell (decode h m .pages (q / 64)) (cellOf (decode h m .pages (q / 64)) (s % 64))))) (demotes d (takeCell (decode h m .pages (q / 64)) (cellOf (decode h m .pages (q / 64)) (s % 64))))) (sym e)
-        ∙ ap (λ (q : Page). countDemotion (putPage (subLive (decode h m) (g / 64) 1) g (afterRemoval d (takeCell q (cellOf q (s % 64))))) (demotes d (takeCell q (cellOf q (s % 64))))) (page-at h m g under))
+        (ap (λ (q : ℕ). countDemotion Single (putPage (subLive (decode h m) (q / 64 / 64) 1) (q / 64) (afterRemoval d (takeCell (decode h m .pages (q / 64)) (cellOf (decode h m .pages (q / 64)) (s % 64))))) (demotes d (takeCell (decode h m .pages (q / 64)) (cellOf (decode h m .pages (q / 64)) (s % 64))))) (sym e)
+        ∙ ap (λ (q : Page). countDemotion Single (putPage (subLive (decode h m) (g / 64) 1) g (afterRemoval d (takeCell q (cellOf q (s % 64))))) (demotes d (takeCell q (cellOf q (s % 64))))) (page-at h m g under))
 
     step-absent : Sound (decode h m) → finds s (standsAt here (s % 64)) ≡ false → removeStep (decode h m) s .after ≡ decode h m
     unfolding removeStep decode
@@ -120,7 +121,7 @@ module _ (h : AdaptiveReceiverPacketWindow) (m : Memory) (fit : FitsIn h m) (s p
 
     -- x is what the page's removal gave, ss and vs the cells afterwards; r, pages and blocks are what was kept of it
     module _ (x : Removed) (ss vs : List ℕ) (t : RemovesIn (p / 64) (h .n) (wordsAt (m .pages) (p / 64)) (m .sequences) (m .values) (h .«demote_at») s x ss vs)
-        (r : Step) (pages blocks : List ℕ) (kept : KeepsRemoved h (m .pages) (m .blocks) (p / 64) (x .words) (x .demoted) (x .answer) r pages blocks) where
+        (r : Step) (pages blocks : List ℕ) (kept : KeepsRemoved h (m .pages) (m .blocks) (p / 64) (x .words) (x .left) (x .answer) r pages blocks) where
       abbrev own : Page
       own = page (x .words) (t .sequences .part) (t .values .part)
 
@@ -147,21 +148,27 @@ module _ (h : AdaptiveReceiverPacketWindow) (m : Memory) (fit : FitsIn h m) (s p
 
       -- the sequence had value v
       module _ (v : ℕ) (a : x .answer ≡ read.Value v) where
-        changes : changed after (g / 64) (change _ _ _ _ _ _ _ _ (kept .found v a)) ≡ afterRemove after g (x .demoted) 1
-        unfolding decode
-        changes = kept .found v a .changes .gives after refl (block-at h m (g / 64) (page-bounds (h .«window_size») g under .block)) (ap holdsValue (put-there (decode h m) g own))
+        -- the page holds a value just if one was left
+        told : Sound (decode h m) → holdsValue (after .pages g) ≡ anyLeft (x .left)
+        told ok =
+            ap holdsValue (put-there (decode h m) g own) ∙ ap (λ (q : RemovedPage). holdsValue (q .page)) (is-removed ok)
+            ∙ removed-told (h .n) here (page-placed h m ok g under) s d ∙ ap (λ (q : RemovedPage). anyLeft (q .left)) (sym (is-removed ok))
 
-        same-size : r .window .«window_size» ≡ h .«window_size»
+        changes : Sound (decode h m) → changed after (g / 64) (change _ _ _ _ _ _ _ _ (kept .found v a)) ≡ afterRemove after g Single (x .left .demoted) 1
+        unfolding decode
+        changes ok = kept .found v a .changes .gives after refl (block-at h m (g / 64) (page-bounds (h .«window_size») g under .block)) (told ok)
+
+        same-size : Sound (decode h m) → r .window .«window_size» ≡ h .«window_size»
         unfolding decode noteNonempty
-        same-size = ap (λ (u : Window). u .header .«window_size») changes
+        same-size ok = ap (λ (u : Window). u .header .«window_size») (changes ok)
 
         left-found : Sound (decode h m) → decode (r .window) (memory ss vs pages blocks) ≡ removeStep (decode h m) s .after
         left-found ok =
             let i = inside h m fit s p k e reach in
-            decode-kept h m g under (i .in-sequences) (i .in-values) ss vs (t .sequences) (t .values) _ (x .words) (r .window) pages blocks (kept .found v a) same-size
+            decode-kept h m g under (i .in-sequences) (i .in-values) ss vs (t .sequences) (t .values) _ (x .words) (r .window) pages blocks (kept .found v a) (same-size ok)
             (fit .long .pages-long) (fit .long .blocks-long)
-            ∙ changes
-            ∙ (λ j. afterRemove (withPage (decode h m) g (is-removed ok j .page)) g (is-removed ok j .demoted) 1)
+            ∙ changes ok
+            ∙ (λ j. afterRemove (withPage (decode h m) g (is-removed ok j .page)) g Single (is-removed ok j .left .demoted) 1)
             ∙ sym (step-found ok (is-found s v (standsAt here (s % 64)) (sym (answered ok) ∙ ap readAnswer a)))
 
       left : (y : Read) → x .answer ≡ y → Sound (decode h m) → decode (r .window) (memory ss vs pages blocks) ≡ removeStep (decode h m) s .after
@@ -179,7 +186,7 @@ module _ (h : AdaptiveReceiverPacketWindow) (m : Memory) (fit : FitsIn h m) (s p
 
     pub remove-admitted : (w : PageWords) → w ≡ wordsAt (m .pages) (p / 64) → (x : Removed) (ss vs : List ℕ)
         → RemovesIn (p / 64) (h .n) w (m .sequences) (m .values) (h .«demote_at») s x ss vs
-        → (r : Step) (pages blocks : List ℕ) → KeepsRemoved h (m .pages) (m .blocks) (p / 64) (x .words) (x .demoted) (x .answer) r pages blocks
+        → (r : Step) (pages blocks : List ℕ) → KeepsRemoved h (m .pages) (m .blocks) (p / 64) (x .words) (x .left) (x .answer) r pages blocks
         → Admitted (remove s) (stateOf h m) [] (leftOf r (memory ss vs pages blocks) [])
     remove-admitted w ew x ss vs t r pages blocks kept =
         remove-kept x ss vs (subst (λ (u : PageWords). RemovesIn g (h .n) u (m .sequences) (m .values) d s x ss vs) ew t) r pages blocks kept

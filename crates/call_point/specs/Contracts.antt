@@ -5,6 +5,7 @@ use mathlib.Core.List.{List}
 use Prim.Native.Nat.{ℕ, _*_, _/_, _≤_, _<_}
 use lib.ListN.{length}
 use Rattle.window.specs.declared.AdaptiveReceiverPacketWindow.{AdaptiveReceiverPacketWindow}
+use Rattle.window.specs.declared.Cause.the-variants.{Single}
 use Rattle.window.specs.declared.answers.Answer.{Answer}
 use Rattle.window.specs.declared.answers.Answer.the-variants.{Refused}
 use Rattle.window.specs.declared.answers.Step.{Step}
@@ -17,6 +18,7 @@ use Rattle.model.specs.Pages as one
 use Rattle.model.specs.Steps.{setPoint, withPage, putPage, addLive, countPromotion, isNew}
 use Rattle.model.specs.Sound.{Sound}
 use Rattle.page_base.specs.declared.PageWords.{PageWords}
+use Rattle.page_base.specs.declared.Left.{Left}
 use Rattle.page_base.specs.declared.find.Read.{Read}
 use Rattle.page_base.specs.declared.find.Read.the-variants.{Absent, Value}
 use Rattle.page_base.specs.Page.{partOf, withPart}
@@ -28,7 +30,7 @@ use Rattle.page_remove.specs.declared.Removed.{Removed}
 use Rattle.page_remove.specs.Contracts.{Removes}
 use Rattle.block_marks.specs.Blocks.{blockWordsAt}
 use Rattle.page_store.specs.Contracts as updates
-use Rattle.page_store.specs.Contracts.{Stores, holds}
+use Rattle.page_store.specs.Contracts.{Stores}
 use Rattle.page_release.specs.declared.PageReleased.{PageReleased}
 use Rattle.page_release.specs.Contracts.{Within, Revives}
 use Rattle.laws_acknowledge.specs.Increments.{afterRemove}
@@ -83,12 +85,12 @@ module _ (h : AdaptiveReceiverPacketWindow) (pages blocks : List ℕ) (g : ℕ) 
         → Stores (updates.Inserted h (blockWordsAt blocks (g / 64)) g (page.promotes (x .answer))) pages blocks g (x .words) (p .window) pages′ blocks′
     pub old : isNew (answerOf (p .answer)) ≡ false → Untouched h pages blocks (p .window) pages′ blocks′
 
-  pub record KeepsRemoved (w : PageWords) (demoted : Bool) (x : Read) (r : Step) (pages′ blocks′ : List ℕ) : Type 0 where
+  pub record KeepsRemoved (w : PageWords) (left : Left) (x : Read) (r : Step) (pages′ blocks′ : List ℕ) : Type 0 where
     pub within : Within pages blocks g pages′ blocks′
     pub answer : answerOf (r .answer .answer) ≡ readAnswer x
     pub count : r .answer .count ≡ 0
     pub found : (v : ℕ) → x ≡ Value v
-        → Stores (updates.Removed h (blockWordsAt blocks (g / 64)) g (holds w) demoted 1) pages blocks g w (r .window) pages′ blocks′
+        → Stores (updates.Removed h (blockWordsAt blocks (g / 64)) g left Single 1) pages blocks g w (r .window) pages′ blocks′
     pub absent : x ≡ Absent → Untouched h pages blocks (r .window) pages′ blocks′
 
 -- ---- insert

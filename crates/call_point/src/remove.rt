@@ -6,12 +6,14 @@ use call_base::admits::admits;
 use call_base::reachable;
 use call_base::refuse;
 use call_base::reply;
+use page_base::Left;
 use page_base::PageWords;
 use page_base::find::Read;
 use page_base::page_words;
 use page_remove::Removed;
 use page_store::store::store_removed;
 use window::AdaptiveReceiverPacketWindow;
+use window::Cause;
 use window::answers::Answer;
 use window::answers::Step;
 use window::memory::PAGE_SLOTS;
@@ -58,14 +60,14 @@ fn keep_removed(
     blocks: &mut [u64],
     page: usize,
     words: PageWords,
-    demoted: bool,
+    left: Left,
     read: Read,
 ) -> Step
     requires { ⌜ (page < 1024) × (rowIn pageWords page (now pages)) × (rowIn blockWords (page / 64) (now blocks)) ⌝ }
-    ensures { λ r. ⌜ KeepsRemoved w (now (pages .entry)) (now (blocks .entry)) page words demoted read r (now (pages .exit)) (now (blocks .exit)) ⌝ }
+    ensures { λ r. ⌜ KeepsRemoved w (now (pages .entry)) (now (blocks .entry)) page words left read r (now (pages .exit)) (now (blocks .exit)) ⌝ }
 {
     if let Read::Value(value) = read {
-        let window = store_removed(w, pages, blocks, page, words, demoted, 1);
+        let window = store_removed(w, pages, blocks, page, words, left, Cause::Single, 1);
         return reply(window, Answer::Found(value));
     }
     reply(w, Answer::Absent)
@@ -91,9 +93,10 @@ pub fn remove_value(
     }
     let words = page_words(pages, page);
     let r = remove_in_page(sequences, values, words, page, n, demote_at, sequence);
-    let left = r.words;
+    let kept = r.words;
+    let left = r.left;
     let read = r.answer;
-    keep_removed(w, pages, blocks, page, left, r.demoted, read)
+    keep_removed(w, pages, blocks, page, kept, left, read)
 }
 
 // The point after a remove: a sequence that was found may move it.

@@ -11,6 +11,7 @@ use Rattle.words.proofs.CaseLaws.{bool}
 use Rattle.words.specs.First.{firstFrom}
 use Rattle.window.specs.Memory.{position}
 use Rattle.window.proofs.MemoryLaws.{position-slot}
+use Rattle.window.specs.declared.Cause.the-variants.{Single}
 use Rattle.model.specs.Calls.{Query, get, successor-after, first-from, iter, stranger, check, write-losses, read-losses, insert, exchange, remove, set-base, take-front, ask}
 use Rattle.model.specs.Roles.{ifRefused, roleOf, toldOf}
 use Rattle.model.specs.Table.{Pair, Table, at, sequenceAt, putAt, putAnswer, exchangeAt, removeAt, tableAnswer, finds}
@@ -100,10 +101,10 @@ module _ (w : Window) (s : ℕ) where
     d = w .header .«demote_at»
 
     removed-page : finds s (liveAt w x) ≡ true
-        → positionsOf (countDemotion (putPage (subLive w (x / 64 / 64) 1) (x / 64) (afterRemoval d rest)) (demotes d rest)) ≡ pointed (positionsOf w) x (removeAt s)
+        → positionsOf (countDemotion Single (putPage (subLive w (x / 64 / 64) 1) (x / 64) (afterRemoval d rest)) (demotes d rest)) ≡ pointed (positionsOf w) x (removeAt s)
     removed-page t =
         let f = found-live t in
-        fewer-seen w (x / 64) 1 (afterRemoval d rest) (demotes d rest)
+        fewer-seen w Single (x / 64) 1 (afterRemoval d rest) (demotes d rest)
         ∙ point-seen w x (afterRemoval d rest) (removeAt s) (f .0)
         (λ j l. rw (position-slot (sizeOf w) s)
         (ap (λ (r : RemovedPage). standsAt (r .page) j) (sym (remove-when-found p s d (f .1))) ∙ remove-stands (w .header .n) p in-place s d j l))

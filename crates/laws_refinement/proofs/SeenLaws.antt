@@ -9,6 +9,7 @@ use lib.Dec.{eqb}
 use borrow.Author.Tests.{eq-eqb, ne-eqb}
 use Rattle.words.specs.Word.{isSet}
 use Rattle.window.specs.declared.AdaptiveReceiverPacketWindow.{AdaptiveReceiverPacketWindow}
+use Rattle.window.specs.declared.Cause.{Cause}
 use Rattle.model.specs.Table.{Pair, at}
 use Rattle.model.specs.Window.{Page, Block, Window, upd, standsAt, isRetired, liveAt, retiredAt}
 use Rattle.model.specs.Positions.{positions}
@@ -81,17 +82,17 @@ module _ (w : Window) where
   pub promotion-view : (b : Bool) → SameView w (countPromotion w b)
   promotion-view b = header-view _ refl refl refl
 
-  pub demotion-view : (b : Bool) → SameView w (countDemotion w b)
-  demotion-view b = header-view _ refl refl refl
+  pub demotion-view : (c : Cause) (b : Bool) → SameView w (countDemotion c w b)
+  demotion-view c b = header-view _ refl refl refl
 
 -- a page with fewer values put and counted: only the page matters
-pub fewer-seen : (w : Window) (g k : ℕ) (p : Page) (demoted : Bool) → positionsOf (fewer w g k p demoted) ≡ positionsOf (withPage w g p)
-fewer-seen w g k p demoted =
+pub fewer-seen : (w : Window) (cause : Cause) (g k : ℕ) (p : Page) (demoted : Bool) → positionsOf (fewer w cause g k p demoted) ≡ positionsOf (withPage w g p)
+fewer-seen w cause g k p demoted =
     let a = withPage w g p in
     let b = subLive a (g / 64) k in
     let c = noteNonempty b g in
-    let e = countDemotion c demoted in
-    view-seen a e (view-then a c (view-then a b (sub-view a (g / 64) k) c (note-view b g)) e (demotion-view c demoted))
+    let e = countDemotion cause c demoted in
+    view-seen a e (view-then a c (view-then a b (sub-view a (g / 64) k) c (note-view b g)) e (demotion-view c cause demoted))
 
 -- ---- one page replaced: only its 64 positions change
 

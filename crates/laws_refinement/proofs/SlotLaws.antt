@@ -9,6 +9,7 @@ use native.Mathlib.Decide.{ℕ-discrete, decLt}
 use lib.ListN.{length}
 use borrow.Author.Tests.{eq-eqb, ne-eqb}
 use Rattle.words.proofs.CaseLaws.{bool}
+use Rattle.window.specs.declared.Cause.the-variants.{Range}
 use Rattle.model.specs.Window.{Page, Window, standsAt, isRetired, liveAt, retiredAt}
 use Rattle.model.specs.Pages.{holdsValue, afterRemoval, demotes, PageDrained, drainPage}
 use Rattle.model.specs.Positions.{Positions, positions, Drained, drained, drain}
@@ -87,10 +88,10 @@ module _ (n : ℕ) (w : Window) (g : ℕ) (P : ℕ → Bool) (j m q : ℕ) (ok :
           | no e ↦ rw (ne-eqb (x / 64) g e)
         ]
 
-    taken : Empties m q (positionsOf w) (returnedBy (fewer w g (length (d .out)) rest (demotes (w .header .«demote_at») (d .page))) (d .out))
+    taken : Empties m q (positionsOf w) (returnedBy (fewer w Range g (length (d .out)) rest (demotes (w .header .«demote_at») (d .page))) (d .out))
     taken = record {
       out = sym (both-drained .out);
-      after = fewer-seen w g (length (d .out)) rest (demotes (w .header .«demote_at») (d .page))
+      after = fewer-seen w Range g (length (d .out)) rest (demotes (w .header .«demote_at») (d .page))
           ∙ (λ i. positions (λ x. slots-live x i) (λ x. slots-retired x i) (w .header .«release_cursor») (w .header .base));
     }
 

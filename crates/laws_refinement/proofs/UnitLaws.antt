@@ -17,7 +17,8 @@ use Rattle.model.specs.Steps.{Release, release, releaseStep, windowStep, window
 use Rattle.model.proofs.UnitLaws.{pagesHeld, pairsHeld, release-few, release-costs}
 use Rattle.laws_soundness.specs.Change.{Proper}
 use Rattle.laws_soundness.proofs.SumLaws.{sum-same}
-use Rattle.laws_soundness.proofs.VisitLaws.{pages-same, proper-release, release-limits}
+use Rattle.laws_soundness.proofs.LimitLaws.{release-limits}
+use Rattle.laws_soundness.proofs.VisitLaws.{pages-same, proper-release}
 use Rattle.laws_soundness.proofs.RetireLaws.{proper-retiring}
 use Rattle.laws_refinement.specs.Seen.{positionsOf, retiredPages}
 use Rattle.laws_refinement.proofs.MarkLaws.{proper-order}
@@ -42,7 +43,7 @@ module _ (w : Window) (ok : Proper w) where
     held-after : r .after .header .«retired_held» ≡ pairsHeld (pagesOf w) (releaseAt (pagesOf w) b b (retiredAt w) (w .header .«release_cursor») .retired)
     held-after =
         let v = r .after in
-        let same : pagesOf v ≡ pagesOf w = pages-same w v (release-limits b w ok) in
+        let same : pagesOf v ≡ pagesOf w = pages-same w v (release-limits w b) in
         sym (all-counts (v .header .n) (pagesOf v) v (proper-order v (proper-release b w ok)) (64 * pagesOf w) (ap (λ (n : ℕ). 64 * n) (sym same)))
         ∙ ap (λ (x : Positions). pairsHeld (pagesOf w) (x .retired)) (released-as .after)
 

@@ -17,13 +17,13 @@ use Rattle.model.specs.Sound.{SoundWithPoint}
 use Rattle.model.proofs.KeepLaws.{count-some}
 use Rattle.model.proofs.RefusalLaws.{range-taken, insert-taken, base-taken}
 use Rattle.laws_soundness.specs.Change.{Proper, Limits, SameSizes, SameLimits}
-use Rattle.laws_soundness.proofs.LimitLaws.{all-limits, insert-limits, exchange-limits, remove-limits}
+use Rattle.laws_soundness.proofs.LimitLaws.{all-limits, release-limits, release-pages-limits, insert-limits, exchange-limits, remove-limits}
 use Rattle.laws_soundness.proofs.ProperLaws.{proper-decode}
 use Rattle.laws_soundness.proofs.ExchangeRemoveLaws.{proper-exchange, proper-remove}
 use Rattle.laws_soundness.proofs.InsertLaws.{proper-insert}
-use Rattle.laws_soundness.proofs.VisitLaws.{pages-same, proper-release, release-limits, pages-released}
+use Rattle.laws_soundness.proofs.VisitLaws.{pages-same, proper-release, pages-released}
 use Rattle.laws_soundness.proofs.RetireRangeLaws.{proper-all, all-len}
-use Rattle.laws_soundness.proofs.RetireReleaseLaws.{retiring-release, retiring-release-limits, ranged, ranged-limits, retiring-ranged, count-few}
+use Rattle.laws_soundness.proofs.RetireReleaseLaws.{retiring-release, ranged, ranged-limits, retiring-ranged, count-few}
 
 -- ---- base and point are no part of document 01's soundness
 
@@ -101,23 +101,23 @@ module _ (w : Window) (ok : Proper w) where
       let start = position (sizeOf w) a in
       let v = ranged w start (rangeCount a b) in
       let r = retiring-ranged w start (rangeCount a b) ok (position-lt (sizeOf w) a) (count-some a b) (count-few w ok a b e) in
-      leaves (retiring-release v r 256) (retiring-release-limits v r 256 ∙ ranged-limits w start (rangeCount a b))
+      leaves (retiring-release v r 256) (release-limits v 256 ∙ ranged-limits w start (rangeCount a b))
 
   clear-leaves : Leaves w (clearStep w .after)
   unfolding clearStep
   clear-leaves =
       let v = retireAll w in
-      leaves (proper-release 256 v (proper-all w ok)) (release-limits 256 v (proper-all w ok) ∙ all-limits w)
+      leaves (proper-release 256 v (proper-all w ok)) (release-limits v 256 ∙ all-limits w)
 
   clear-bounded-leaves : (n : ℕ) → Leaves w (clearBoundedStep w n .after)
   unfolding clearBoundedStep
   clear-bounded-leaves n =
       let t = pages-released (pagesOf w) 0 n (retireAll w) (proper-all w ok) (all-len w) (omega (arith, pages-same w (retireAll w) (all-limits w))) in
-      leaves (t .proper) (t .limits ∙ all-limits w)
+      leaves (t .proper) (release-pages-limits (retireAll w) (pagesOf w) 0 n ∙ all-limits w)
 
   release-leaves : (b : ℕ) → Leaves w (releaseStep w b .after)
   unfolding releaseStep
-  release-leaves b = leaves (proper-release b w ok) (release-limits b w ok)
+  release-leaves b = leaves (proper-release b w ok) (release-limits w b)
 
   pub does-leaves : (c : Call) → leavesBase c ≡ true → argumentRefusal (knownBy (w .header)) c ≡ 0 → Leaves w (windowDoes w c .after)
   unfolding windowDoes

@@ -137,7 +137,7 @@ module _ (w v : Window) (g : ℕ) (q : Page) (ok : Sound w) (below : g < pagesOf
   held-is = omega (arith, sum-but (pagesOf w) (retiredIn v) (retiredIn w) g below (λ h l d. counts-kept h d .1), ok .held, c .held)
 
   -- of v, with the parts of the header that are w's
-  changed-sound : Sound (window (headerWith (w .header) (v .header .len) (v .header .«retired_held») (w .header .«release_cursor») (v .header .«nonempty_summary») (v .header .«retired_blocks») (v .header .promotions) (v .header .demotions)) (v .pages) (v .blocks))
+  changed-sound : Sound (window (headerWith (w .header) (v .header .len) (v .header .«retired_held») (w .header .«release_cursor») (v .header .«nonempty_summary») (v .header .«retired_blocks») (v .header .promotions) (v .header .«single_demotions») (v .header .«range_demotions»)) (v .pages) (v .blocks))
   changed-sound = record {
     within = ok .within;
     page = pages-sound;

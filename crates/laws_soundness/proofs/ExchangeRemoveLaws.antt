@@ -6,6 +6,7 @@ use Prim.Native.Nat.{ℕ, _%_, _<_}
 use native.Mathlib.Omega.{arith}
 use Rattle.words.proofs.CaseLaws.{bool}
 use Rattle.window.proofs.MemoryLaws.{capacity-pages, position-lt, position-slot}
+use Rattle.window.specs.declared.Cause.the-variants.{Single}
 use Rattle.model.specs.Table.{finds}
 use Rattle.model.specs.Window.{Page, Window, capacityOf, pagesOf, cellOf, isRetired}
 use Rattle.model.specs.Pages.{setValue, takeCell, demotes, afterRemoval}
@@ -74,7 +75,7 @@ remove-alters w s ok =
       g,
       q,
       l,
-      put-fewer w g 1 q (demotes d (takeCell p c)) ok l (f .0)
+      put-fewer w Single g 1 q (demotes d (takeCell p c)) ok l (f .0)
           (after-sound (w .header .n) (capacityOf w) g (takeCell p c) d (ok .within .demote) taken (take-here (capacityOf w) g p c (all-here (w .header .n) (capacityOf w) g p sound)))
           (λ k n. after-dense (takeCell p c) d k)
           (omega (arith, after-count (takeCell p c) d, take-count (w .header .n) p at c (f .1 .inside) (f .1 .used))),

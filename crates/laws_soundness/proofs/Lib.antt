@@ -1,6 +1,7 @@
 -- A sound window stays sound. What a change of one page is (Change); laws on sums (SumLaws), on what pages count (PageLaws) and on
 -- changes (ChangeLaws, PutLaws); each step (ExchangeRemoveLaws, SplitLaws, ReleaseLaws, ReviveLaws, InsertLaws), a state
--- read as a window (ProperLaws), releases over several pages (VisitLaws), bounds on the counts (BoundLaws), and the limits that stay (LimitLaws). What
+-- read as a window (ProperLaws), releases over several pages (VisitLaws), bounds on the counts (BoundLaws), what steps
+-- leave of the header (KeptLaws) and the limits that stay (LimitLaws). What
 -- retiring changes (Retire), and the window that it leaves (RetireLaws): by position (RetireSlotLaws), in a block (RetireInLaws,
 -- RetireBlockLaws), over a range or everything (RetireRangeLaws); the release after it (RetireReleaseLaws) and how many values it
 -- returns (RetireCountLaws). All calls (CallLaws).
@@ -13,6 +14,7 @@ pub mod SplitLaws
 pub mod ReleaseLaws
 pub mod ReviveLaws
 pub mod InsertLaws
+pub mod KeptLaws
 pub mod LimitLaws
 pub mod ProperLaws
 pub mod BoundLaws

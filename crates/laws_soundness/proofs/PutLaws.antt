@@ -10,6 +10,7 @@ use borrow.Author.Tests.{eq-eqb, ne-eqb}
 use Rattle.words.specs.Word.{bitAt, isSet, withBit, count}
 use Rattle.words.proofs.ChangeLaws.{with-own}
 use Rattle.model.specs.Demand3.{one}
+use Rattle.window.specs.declared.Cause.{Cause}
 use Rattle.model.specs.Window.{Page, Block, Window, capacityOf, pagesOf, isRetired}
 use Rattle.model.specs.Pages.{valuesIn, holdsValue}
 use Rattle.model.specs.Steps.{noteNonempty, withPage, putPage, addLive, subLive, countPromotion, countDemotion}
@@ -113,9 +114,9 @@ module _ (w : Window) (g : ℕ) (q : Page) (ok : Sound w) (below : g < pagesOf w
 
 -- ---- k values fewer in the live page g
 
-module _ (w : Window) (g k : ℕ) (q : Page) (demoted : Bool) where
+module _ (w : Window) (c : Cause) (g k : ℕ) (q : Page) (demoted : Bool) where
   abbrev pub fewer : Window
-  fewer = countDemotion (putPage (subLive w (g / 64) k) g q) demoted
+  fewer = countDemotion c (putPage (subLive w (g / 64) k) g q) demoted
 
   fewer-writes : Writes w fewer g q
   unfolding noteNonempty

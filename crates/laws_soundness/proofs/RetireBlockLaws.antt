@@ -14,7 +14,7 @@ use Rattle.words.proofs.WordLaws.{word-lt}
 use Rattle.model.specs.Table.{sum}
 use Rattle.model.specs.Window.{Block, Window, blocksOf, isRetired}
 use Rattle.model.specs.Pages.{valuesIn}
-use Rattle.model.specs.Steps.{headerWith, withHeader, setRetiredBlocks, setMarks, splitBlock, setRetired, setLive, pagesIn, newMarks, retireLive, retireInBlock, retireBlock}
+use Rattle.model.specs.Steps.{retiringHeader, withHeader, setRetiredBlocks, setMarks, splitBlock, setRetired, setLive, pagesIn, newMarks, retireLive, retireInBlock, retireBlock}
 use Rattle.model.specs.Sound.{liveIn, Sound}
 use Rattle.laws_soundness.specs.Change.{Proper}
 use Rattle.laws_soundness.proofs.SumLaws.{sum-same, sum-add, sum-none}
@@ -32,7 +32,7 @@ module _ (w : Window) (b : ℕ) (ok : Retiring w) (below : b < blocksOf w) where
       let own = own-block w b in
       let same = split-status w b mark (unnoted-empty (withBlockMarks w (ok .marks)) (ok .proper)) in
       record {
-        header = λ i. headerWith (w .header) (len0 (w .header .len) i) (held0 (w .header .«retired_held») i) (w .header .«release_cursor») (w .header .«nonempty_summary») (split w b .header .«retired_blocks») (w .header .promotions) (w .header .demotions);
+        header = λ i. retiringHeader (w .header) (len0 (w .header .len) i) (held0 (w .header .«retired_held») i) (split w b .header .«retired_blocks»);
         pages = refl;
         other-blocks = other-block w b;
         nonempty = ap (λ (x : Block). x .nonempty) own;

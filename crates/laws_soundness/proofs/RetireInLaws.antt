@@ -10,7 +10,7 @@ use Rattle.words.specs.Word.{isSet}
 use Rattle.window.specs.declared.AdaptiveReceiverPacketWindow.{AdaptiveReceiverPacketWindow}
 use Rattle.model.specs.Table.{sum}
 use Rattle.model.specs.Window.{Page, Block, Window, pagesOf, blocksOf, isRetired}
-use Rattle.model.specs.Steps.{headerWith}
+use Rattle.model.specs.Steps.{retiringHeader}
 use Rattle.model.specs.Sound.{liveIn}
 use Rattle.laws_soundness.proofs.SumLaws.{sum-same, sum-past, sum-block}
 use Rattle.laws_soundness.proofs.PageLaws.{empty-counts, same-counts}
@@ -58,7 +58,7 @@ module _ (w v : Window) (ok : Retiring w) (b k : ℕ) (below : b < blocksOf w) (
 
   in-retires : Retires w v
   in-retires = record {
-    header = c .header ∙ (λ i. headerWith (w .header) (sym len-of i) (sym held-of i) (w .header .«release_cursor») (w .header .«nonempty_summary») (v .header .«retired_blocks») (w .header .promotions) (w .header .demotions));
+    header = c .header ∙ (λ i. retiringHeader (w .header) (sym len-of i) (sym held-of i) (v .header .«retired_blocks»));
     pages = c .pages;
     nonempty = λ d. elim (ℕ-discrete d b) [ yes e ↦ rw e (c .nonempty) | no e ↦ ap (λ (x : Block). x .nonempty) (c .other-blocks d e) ];
     status = status-is;

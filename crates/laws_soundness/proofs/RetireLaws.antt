@@ -16,7 +16,7 @@ use Rattle.model.specs.Table.{sum}
 use Rattle.model.specs.Demand3.{one}
 use Rattle.model.specs.Window.{Page, Window, window, pagesOf, blocksOf, isRetired}
 use Rattle.model.specs.Pages.{valuesIn, holdsValue}
-use Rattle.model.specs.Steps.{headerWith, dropBlockMarks}
+use Rattle.model.specs.Steps.{retiringHeader, dropBlockMarks}
 use Rattle.model.specs.Sound.{liveIn, retiredIn, Sound}
 use Rattle.laws_soundness.specs.Change.{Proper, noted, marked, SameStatus}
 use Rattle.laws_soundness.proofs.SumLaws.{sum-same, sum-add, sum-part}
@@ -51,7 +51,7 @@ module _ (w v : Window) (ok : Sound w) (c : Retires w v) where
 
   -- of v, with the parts of the header that are w's
   retired-sound : (v .header .«retired_held» ≡ 0 → v .header .«retired_blocks» ≡ 0)
-      → Sound (window (headerWith (w .header) (v .header .len) (v .header .«retired_held») (w .header .«release_cursor») (w .header .«nonempty_summary») (v .header .«retired_blocks») (w .header .promotions) (w .header .demotions)) (v .pages) (v .blocks))
+      → Sound (window (retiringHeader (w .header) (v .header .len) (v .header .«retired_held») (v .header .«retired_blocks»)) (v .pages) (v .blocks))
   retired-sound none = record {
     within = ok .within;
     page = λ h l. rw (c .pages) (ok .page h l);
@@ -104,7 +104,7 @@ module _ (u w v : Window) (c : Retires u w) (d : Retires w v) where
 
   pub retires-then : Retires u v
   retires-then = record {
-    header = d .header ∙ ap (λ (h : AdaptiveReceiverPacketWindow). headerWith h (v .header .len) (v .header .«retired_held») (h .«release_cursor») (h .«nonempty_summary») (v .header .«retired_blocks») (h .promotions) (h .demotions)) (c .header);
+    header = d .header ∙ ap (λ (h : AdaptiveReceiverPacketWindow). retiringHeader h (v .header .len) (v .header .«retired_held») (v .header .«retired_blocks»)) (c .header);
     pages = d .pages ∙ c .pages;
     nonempty = λ b. d .nonempty b ∙ c .nonempty b;
     status = λ h e. ⊎-elim (λ z. inl (ap (λ (f : ℕ → Page). f h .occupied) (sym (c .pages)) ∙ z)) (λ r. c .status h r) (d .status h e);
@@ -123,7 +123,7 @@ module _ (w v : Window) (c : Retires w v) (r : ℕ) (bits : (b : ℕ) → blocks
 
   pub retires-marks : Retires w (withBlockMarks v r)
   retires-marks = record {
-    header = ap (λ (h : AdaptiveReceiverPacketWindow). headerWith h (v .header .len) (v .header .«retired_held») (h .«release_cursor») (h .«nonempty_summary») r (h .promotions) (h .demotions)) (c .header);
+    header = ap (λ (h : AdaptiveReceiverPacketWindow). retiringHeader h (v .header .len) (v .header .«retired_held») r) (c .header);
     pages = c .pages;
     nonempty = c .nonempty;
     status = λ h e. ⊎-elim (λ z. inl (ap (λ (f : ℕ → Page). f h .occupied) (sym (c .pages)) ∙ z)) (λ s. c .status h (sym s ∙ e)) (same h);

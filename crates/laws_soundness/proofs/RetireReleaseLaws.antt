@@ -18,12 +18,12 @@ use Rattle.model.specs.Sound.{retiredIn}
 use Rattle.laws_soundness.specs.Change.{Proper, SameLimits}
 use Rattle.laws_soundness.proofs.SumLaws.{sum-part}
 use Rattle.laws_soundness.proofs.PageLaws.{cond-holds, some-counted, retired-counts}
-use Rattle.laws_soundness.proofs.LimitLaws.{limits-either, drop-limits, range-limits}
+use Rattle.laws_soundness.proofs.LimitLaws.{limits-either, range-limits}
 use Rattle.laws_soundness.proofs.ReleaseLaws.{drop-same, proper-cursor}
 use Rattle.laws_soundness.specs.Retire.{withBlockMarks, Retiring}
 use Rattle.laws_soundness.proofs.RetireLaws.{proper-retiring, retiring-from, retiring-drop}
 use Rattle.laws_soundness.proofs.RetireRangeLaws.{same-size, retiring-range}
-use Rattle.laws_soundness.proofs.VisitLaws.{proper-release, release-limits}
+use Rattle.laws_soundness.proofs.VisitLaws.{proper-release}
 
 -- the cursor moved to another page
 pub retiring-cursor : (w : Window) (g : ℕ) → Retiring w → g < pagesOf w → Retiring (withHeader w (setCursor (w .header) g))
@@ -78,9 +78,6 @@ module _ (w : Window) (ok : Retiring w) where
 
   pub retiring-release : (b : ℕ) → Proper (release b w .after)
   retiring-release b = rw (release-drop b b) (proper-release b (dropBlockMarks w) (retiring-drop w ok))
-
-  pub retiring-release-limits : (b : ℕ) → SameLimits w (release b w .after)
-  retiring-release-limits b = rw (release-drop b b) (release-limits b (dropBlockMarks w) (retiring-drop w ok) ∙ drop-limits w)
 
 -- ---- the window from which remove_range releases
 

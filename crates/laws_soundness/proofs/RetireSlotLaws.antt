@@ -9,6 +9,7 @@ use lib.ListN.{length}
 use borrow.Author.Tests.{eq-eqb, ne-eqb}
 use Rattle.words.proofs.CaseLaws.{bool}
 use Rattle.words.specs.Word.{isSet}
+use Rattle.window.specs.declared.Cause.the-variants.{Range}
 use Rattle.model.specs.Window.{Page, Window, capacityOf, pagesOf, isRetired}
 use Rattle.model.specs.Pages.{holdsValue, demotes, afterRemoval, drainPage, PageDrained}
 use Rattle.model.specs.Steps.{noteNonempty, removeSlots}
@@ -35,7 +36,7 @@ module _ (w : Window) (g : ℕ) (P : ℕ → Bool) where
 
   -- the values are taken out
   abbrev taken : Window
-  taken = fewer w g (length (d .out)) q (demotes (w .header .«demote_at») (d .page))
+  taken = fewer w Range g (length (d .out)) q (demotes (w .header .«demote_at») (d .page))
 
   -- what holds of the window unchanged, and with the values of a live page taken out
   slots-cases : (B : Window → Type 0) → B w → (isRetired w g ≡ false → holdsValue (w .pages g) ≡ true → B taken) → B (removeSlots w g P .after)
@@ -49,7 +50,7 @@ module _ (w : Window) (g : ℕ) (P : ℕ → Bool) where
   slots-changes ok l r =
       let n = w .header .n in
       let at = placed n (capacityOf w) g (w .pages g) (ok .sound .page g l) in
-      put-fewer w g (length (d .out)) q (demotes (w .header .«demote_at») (d .page)) (ok .sound) l r
+      put-fewer w Range g (length (d .out)) q (demotes (w .header .«demote_at») (d .page)) (ok .sound) l r
       (after-sound n (capacityOf w) g (d .page) (w .header .«demote_at») (ok .sound .within .demote)
       (drain-placed P n 64 0 64 (w .pages g) (omega arith) at)
       (drain-here P n 64 0 64 (w .pages g) (omega arith) at (capacityOf w) g (all-here n (capacityOf w) g (w .pages g) (ok .sound .page g l))))

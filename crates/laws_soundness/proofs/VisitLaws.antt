@@ -1,5 +1,5 @@
--- Releases over several pages: a release visit from the cursor, and one of all pages in their order. Each keeps a window sound and
--- its limits, and takes out as much as its number says. Assumes nothing.
+-- Releases over several pages: a release visit from the cursor, and one of all pages in their order. Each keeps a window sound
+-- and takes out as much as its number says. Assumes nothing.
 use mathlib.Core.Path.{_≡_, refl, sym, ap, subst, _∙_}
 use mathlib.Core.Bool.{Bool, true, false, cond, _&&_, true≢false}
 use mathlib.Core.List.{[], _++_}
@@ -29,7 +29,7 @@ use Rattle.laws_soundness.specs.Change.{Proper, Limits, SameLimits}
 use Rattle.laws_soundness.proofs.SumLaws.{sum-le}
 use Rattle.laws_soundness.proofs.PageLaws.{holds-some, holds-occupied, live-counts, empty-counts}
 use Rattle.laws_soundness.proofs.BoundLaws.{held-some, live-some}
-use Rattle.laws_soundness.proofs.LimitLaws.{drop-limits, release-page-limits}
+use Rattle.laws_soundness.proofs.LimitLaws.{release-page-limits}
 use Rattle.laws_soundness.proofs.ReleaseLaws.{drain-whole, release-changes, proper-release-page, drop-same, proper-cursor}
 
 -- ---- one page
@@ -105,9 +105,6 @@ pub pages-same : (w v : Window) → SameLimits w v → pagesOf v ≡ pagesOf w
 pages-same w v e = ap (λ (l : Limits). pageCount (l .size)) e
 
 -- a page inspected: the cursor moves on from an emptied page
-pub visit-limits : (w : Window) (g k : ℕ) → SameLimits w (moveCursor (releasePage w g k .after) g)
-visit-limits w g k = release-page-limits w g k
-
 pub proper-visit : (w : Window) (g k : ℕ) → Proper w → g < pagesOf w → isRetired w g ≡ true → Proper (moveCursor (releasePage w g k .after) g)
 proper-visit w g k ok below retired =
     let v = releasePage w g k .after in
@@ -203,7 +200,6 @@ release-visits b w e =
 
 pub record Released (b : ℕ) (w : Window) (r : Release) : Type 0 where
   pub proper : Proper (r .after)
-  pub limits : SameLimits w (r .after)
   pub units : r .units ≤ b
   pub values : length (r .out) ≤ r .units
   -- Each page inspected holds a value, so it gives one unless the budget is spent: half the budget comes out, or all.
@@ -213,7 +209,6 @@ pub record Released (b : ℕ) (w : Window) (r : Release) : Type 0 where
 stops : (b : ℕ) (w : Window) → Proper w → (b / 2 ≤ 0) ⊎ (w .header .«retired_held» ≡ 0) → Released b w (releaseOf (dropBlockMarks w) [] 0)
 stops b w ok h = record {
   proper = subst Proper (sym (drop-same w (ok .sound))) ok;
-  limits = drop-limits w;
   units = omega arith;
   values = omega arith;
   halves = ⊎-elim (λ l. inl l) (λ z. inr (ap (λ (v : Window). v .header .«retired_held») (drop-same w (ok .sound)) ∙ z)) h;
@@ -229,7 +224,6 @@ goes-on b g w ok below retired holds r t =
     let long = length-append (p .out) (r .out) in
     record {
       proper = t .proper;
-      limits = t .limits ∙ visit-limits w g b;
       units = omega (arith, t .units);
       values = omega (arith, t .values);
       halves = ⊎-elim
@@ -259,9 +253,6 @@ module _ (b : ℕ) (w : Window) (ok : Proper w) where
 
   pub proper-release : Proper (release b w .after)
   proper-release = release-released .proper
-
-  pub release-limits : SameLimits w (release b w .after)
-  release-limits = release-released .limits
 
   pub units-le : release b w .units ≤ b
   units-le = release-released .units
@@ -344,12 +335,11 @@ none-held w ok none held g l =
 
 pub record PagesReleased (k : ℕ) (w : Window) (r : Returned) : Type 0 where
   pub proper : Proper (r .after)
-  pub limits : SameLimits w (r .after)
   pub none-live : r .after .header .len ≡ 0
   pub few : length (r .out) ≤ k
 
 as-before : (k : ℕ) (w : Window) → Proper w → w .header .len ≡ 0 → PagesReleased k w (returnedBy w [])
-as-before k w ok none = record { proper = ok; limits = refl; none-live = none; few = omega arith }
+as-before k w ok none = record { proper = ok; none-live = none; few = omega arith }
 
 pub pages-released : (n g k : ℕ) (w : Window) → Proper w → w .header .len ≡ 0 → g + n ≤ pagesOf w → PagesReleased k w (releasePages n g k w)
 pages-released zero g k w ok none l = subst (PagesReleased k w) (sym (pages-end w g k)) (as-before k w ok none)
@@ -360,12 +350,10 @@ pages-released (suc n) g (suc k) w ok none l =
     let p = releasePage w g (suc k) in
     let left = suc k - length (p .out) in
     let below : g < pagesOf w = omega arith in
-    let limits = release-page-limits w g (suc k) in
     let t = pages-released n (suc g) left (p .after) (proper-release-page w g (suc k) ok below (all-retired w (ok .sound) none g below h)) (page-len w g (suc k) ∙ none)
-    (omega (arith, pages-same w (p .after) limits)) in
+    (omega (arith, pages-same w (p .after) (release-page-limits w g (suc k)))) in
     subst (PagesReleased (suc k) w) (sym (pages-next w g n k h)) (record {
       proper = t .proper;
-      limits = t .limits ∙ limits;
       none-live = t .none-live;
       few = omega (arith, t .few, length-append (p .out) (releasePages n (suc g) left (p .after) .out), page-out-le w ok g (suc k) below);
     }))
@@ -373,6 +361,3 @@ pages-released (suc n) g (suc k) w ok none l =
 
 pub proper-release-pages : (k : ℕ) (w : Window) → Proper w → w .header .len ≡ 0 → Proper (releasePages (pagesOf w) 0 k w .after)
 proper-release-pages k w ok none = pages-released (pagesOf w) 0 k w ok none (omega arith) .proper
-
-pub release-pages-limits : (k : ℕ) (w : Window) → Proper w → w .header .len ≡ 0 → SameLimits w (releasePages (pagesOf w) 0 k w .after)
-release-pages-limits k w ok none = pages-released (pagesOf w) 0 k w ok none (omega arith) .limits

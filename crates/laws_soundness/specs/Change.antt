@@ -1,15 +1,18 @@
 -- A window that differs from another in one page, and in its words and counts. Definitions only. Assumes nothing.
 use mathlib.Core.Path.{_≡_}
-use mathlib.Core.Bool.{false, not}
+use mathlib.Core.Bool.{Bool, false, cond, not}
+use mathlib.Core.Option.{Option, none, some}
 use mathlib.Core.Logic.{_⊎_}
 use Prim.Native.Nat.{ℕ, _+_, _/_, _%_, _^_, _≤_, _<_}
 use lib.Dec.{eqb}
 use Rattle.words.specs.Word.{bitAt, withBit}
 use Rattle.window.specs.declared.AdaptiveReceiverPacketWindow.{AdaptiveReceiverPacketWindow}
+use Rattle.window.specs.declared.Cause.{Cause}
+use Rattle.window.specs.declared.Cause.the-variants.{Single, Range}
 use Rattle.model.specs.Demand3.{one}
 use Rattle.model.specs.Window.{Page, Window, noPage, capacityOf, pagesOf, isRetired}
 use Rattle.model.specs.Pages.{valuesIn, holdsValue}
-use Rattle.model.specs.Steps.{headerWith}
+use Rattle.model.specs.Steps.{headerWith, isCause}
 use Rattle.model.specs.Sound.{SoundPage, liveIn, retiredIn, Sound}
 
 -- What lies past the last page is no part of the window. Soundness does not say it; it holds of every window that is read from lists.
@@ -49,6 +52,26 @@ limitsOf h = record { size = h .«window_size»; cells = h .n; demote-at = h .«
 abbrev pub SameLimits : Window → Window → Type 0
 SameLimits w v = limitsOf (v .header) ≡ limitsOf (w .header)
 
+-- these and the counts of demotions, the one of a cause not looked at
+pub record Kept : Type 0 where
+  pub limits : Limits
+  pub single : ℕ
+  pub range : ℕ
+
+abbrev pub leftOut : Cause → Option Cause → Bool
+leftOut k none = false
+leftOut k (some c) = isCause k c
+
+abbrev pub keptBut : Option Cause → AdaptiveReceiverPacketWindow → Kept
+keptBut c h = record {
+  limits = limitsOf h;
+  single = cond (leftOut Single c) 0 (h .«single_demotions»);
+  range = cond (leftOut Range c) 0 (h .«range_demotions»);
+}
+
+abbrev pub SameBut : Option Cause → Window → Window → Type 0
+SameBut c w v = keptBut c (v .header) ≡ keptBut c (w .header)
+
 -- the bits of page g in its block's words
 abbrev pub noted : Window → ℕ → ℕ
 noted w g = bitAt (w .blocks (g / 64) .nonempty) (g % 64)
@@ -63,7 +86,7 @@ SameStatus w v h = (w .pages h .occupied ≡ 0) ⊎ (isRetired v h ≡ isRetired
 module _ (w v : Window) (g : ℕ) where
   -- v is w with q for page g, which is noted; counts and marks may differ too
   pub record Writes (q : Page) : Type 0 where
-    pub header : v .header ≡ headerWith (w .header) (v .header .len) (v .header .«retired_held») (w .header .«release_cursor») (v .header .«nonempty_summary») (v .header .«retired_blocks») (v .header .promotions) (v .header .demotions)
+    pub header : v .header ≡ headerWith (w .header) (v .header .len) (v .header .«retired_held») (w .header .«release_cursor») (v .header .«nonempty_summary») (v .header .«retired_blocks») (v .header .promotions) (v .header .«single_demotions») (v .header .«range_demotions»)
     pub own-page : v .pages g ≡ q
     pub other-pages : (h : ℕ) → (h ≡ g → ⊥) → v .pages h ≡ w .pages h
     pub other-blocks : (b : ℕ) → (b ≡ g / 64 → ⊥) → v .blocks b ≡ w .blocks b

@@ -8,7 +8,7 @@ use lib.Dec.{leb, ltb, eqb}
 use Rattle.words.specs.Word.{bitAt}
 use Rattle.model.specs.Table.{within, sum}
 use Rattle.model.specs.Window.{Window, pagesOf, blocksOf, isRetired}
-use Rattle.model.specs.Steps.{headerWith, withHeader, setRetiredBlocks, Returned, returnedBy, removeSlots, retireInBlock, retireBlock, coversBlock}
+use Rattle.model.specs.Steps.{retiringHeader, withHeader, setRetiredBlocks, Returned, returnedBy, removeSlots, retireInBlock, retireBlock, coversBlock}
 use Rattle.model.specs.Sound.{liveIn, retiredIn}
 use Rattle.laws_soundness.specs.Change.{Proper, SameStatus}
 
@@ -31,7 +31,7 @@ module _ (w v : Window) where
 
   -- v is w with values retired: marks and counts may differ, the marks are on pages that hold a value, and the counts are right
   pub record Retires : Type 0 where
-    pub header : v .header ≡ headerWith (w .header) (v .header .len) (v .header .«retired_held») (w .header .«release_cursor») (w .header .«nonempty_summary») (v .header .«retired_blocks») (w .header .promotions) (w .header .demotions)
+    pub header : v .header ≡ retiringHeader (w .header) (v .header .len) (v .header .«retired_held») (v .header .«retired_blocks»)
     pub pages : v .pages ≡ w .pages
     pub nonempty : (b : ℕ) → v .blocks b .nonempty ≡ w .blocks b .nonempty
     pub status : (h : ℕ) → NotRevived h
@@ -44,7 +44,7 @@ module _ (w v : Window) where
 
   -- v is w with k values of block b retired
   pub record RetiresIn (b k : ℕ) : Type 0 where
-    pub header : v .header ≡ headerWith (w .header) (w .header .len - k) (w .header .«retired_held» + k) (w .header .«release_cursor») (w .header .«nonempty_summary») (v .header .«retired_blocks») (w .header .promotions) (w .header .demotions)
+    pub header : v .header ≡ retiringHeader (w .header) (w .header .len - k) (w .header .«retired_held» + k) (v .header .«retired_blocks»)
     pub pages : v .pages ≡ w .pages
     pub other-blocks : (d : ℕ) → (d ≡ b → ⊥) → v .blocks d ≡ w .blocks d
     pub nonempty : v .blocks b .nonempty ≡ w .blocks b .nonempty

@@ -21,7 +21,8 @@ use Rattle.page_base.proofs.DecodeLaws.{header-at}
 use Rattle.laws_soundness.specs.Change.{Proper}
 use Rattle.laws_soundness.proofs.ProperLaws.{proper-decode}
 use Rattle.laws_soundness.proofs.RetireLaws.{proper-retiring}
-use Rattle.laws_soundness.proofs.VisitLaws.{pages-same, proper-release, release-limits}
+use Rattle.laws_soundness.proofs.LimitLaws.{release-limits}
+use Rattle.laws_soundness.proofs.VisitLaws.{pages-same, proper-release}
 use Rattle.laws_refinement.specs.Seen.{positionsOf, positionsIn, SoundState}
 use Rattle.laws_refinement.proofs.VisitLaws.{release-as}
 use Rattle.laws_refinement.proofs.StateLaws.{call-refines}
@@ -65,7 +66,7 @@ window-queues w v b xs ok l x =
       ok = proper-release b w ok;
       out = sym (x .0) ∙ r .out ∙ s .out;
       rest =
-          ap (λ (n : ℕ). waiting n (positionsOf z)) (pages-same w z (release-limits b w ok)) ∙ ap (waiting (pagesOf w)) (r .after) ∙ s .rest;
+          ap (λ (n : ℕ). waiting n (positionsOf z)) (pages-same w z (release-limits w b)) ∙ ap (waiting (pagesOf w)) (r .after) ∙ s .rest;
     })
 
 -- the window of a sound state is proper

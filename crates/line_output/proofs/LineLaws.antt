@@ -10,6 +10,7 @@ use Rattle.line_text.specs.PrintContracts.{Puts}
 use Rattle.line_text.proofs.PrintLaws.{put-then, tabbed-none, tabbed-cons, tabbed-few, paired-few, at-most-20, marked-few}
 use Rattle.window.specs.declared.AdaptiveReceiverPacketWindow.{AdaptiveReceiverPacketWindow}
 use Rattle.window.specs.declared.answers.Answer as code
+use Rattle.model.specs.Steps.{demotionsOf}
 use Rattle.model.specs.Calls.{Answer, done, new, replaced, absent, found, pair, ended, released, refused}
 use Rattle.call_base.specs.Answers.{answerOf}
 use Rattle.line_output.specs.Output.{answerBytes, countBytes, headBytes}
@@ -34,16 +35,20 @@ answer-few (refused k) = omega (arith, marked-few 33 k)
 pub answer-end : (at r : ℕ) (a : Answer) (out out′ : List ℕ) → Puts at (answerBytes a) out r out′ → r ≤ at + 41
 answer-end at r a out out′ p = omega (arith, p .end, answer-few a)
 
+-- a count that is another's
+pub put-count : (at n k r : ℕ) (out out′ : List ℕ) → n ≡ k → Puts at (9 ∷ digits n) out r out′ → Puts at (9 ∷ digits k) out r out′
+put-count at n k r out out′ e = subst (λ (x : ℕ). Puts at (9 ∷ digits x) out r out′) e
+
 module _ (w : AdaptiveReceiverPacketWindow) where
-  pub counts-are : countBytes w ≡ (9 ∷ digits (w .len)) ++ ((9 ∷ digits (w .«retired_held»)) ++ ((9 ∷ digits (w .promotions)) ++ (9 ∷ digits (w .demotions))))
+  pub counts-are : countBytes w ≡ (9 ∷ digits (w .len)) ++ ((9 ∷ digits (w .«retired_held»)) ++ ((9 ∷ digits (w .promotions)) ++ (9 ∷ digits (demotionsOf w))))
   unfolding countBytes
   counts-are =
-      rw (tabbed-cons (w .len) (w .«retired_held» ∷ w .promotions ∷ w .demotions ∷ []), tabbed-cons (w .«retired_held») (w .promotions ∷ w .demotions ∷ []), tabbed-cons (w .promotions) (w .demotions ∷ []), tabbed-cons (w .demotions) [], tabbed-none)
-      (ap (λ (l : List ℕ). (9 ∷ digits (w .len)) ++ ((9 ∷ digits (w .«retired_held»)) ++ ((9 ∷ digits (w .promotions)) ++ l))) (append-nil (9 ∷ digits (w .demotions))))
+      rw (tabbed-cons (w .len) (w .«retired_held» ∷ w .promotions ∷ demotionsOf w ∷ []), tabbed-cons (w .«retired_held») (w .promotions ∷ demotionsOf w ∷ []), tabbed-cons (w .promotions) (demotionsOf w ∷ []), tabbed-cons (demotionsOf w) [], tabbed-none)
+      (ap (λ (l : List ℕ). (9 ∷ digits (w .len)) ++ ((9 ∷ digits (w .«retired_held»)) ++ ((9 ∷ digits (w .promotions)) ++ l))) (append-nil (9 ∷ digits (demotionsOf w))))
 
   counts-few : length (countBytes w) ≤ 84
   unfolding countBytes
-  counts-few = omega (arith, tabbed-few (w .len ∷ w .«retired_held» ∷ w .promotions ∷ w .demotions ∷ []))
+  counts-few = omega (arith, tabbed-few (w .len ∷ w .«retired_held» ∷ w .promotions ∷ demotionsOf w ∷ []))
 
   pub head-few : (letter : ℕ) (a : Answer) → length (headBytes letter a w) ≤ 127
   head-few letter a = omega (arith, length-append (answerBytes a) (countBytes w), answer-few a, counts-few)

@@ -6,6 +6,7 @@ use lib.ListN.{length}
 use Rattle.line_text.specs.Output.{digits, tabbed, paired}
 use Rattle.window.specs.declared.AdaptiveReceiverPacketWindow.{AdaptiveReceiverPacketWindow}
 use Rattle.model.specs.Calls.{Answer, done, new, replaced, absent, found, pair, ended, released, refused}
+use Rattle.model.specs.Steps.{demotionsOf}
 
 -- "Answers: `.` nothing, `+` new, `=V` replaced V, `-` absent, `!k` refusal k, v gives released:units, l the pair count, else the
 -- number." A pair is shown by its sequence. In bytes: . 46, + 43, = 61, - 45, ! 33, : 58.
@@ -20,9 +21,9 @@ answerBytes (ended reads) = 46 ∷ []
 answerBytes (released values units) = digits values ++ (58 ∷ digits units)
 answerBytes (refused k) = 33 ∷ digits k
 
--- "len, retired_held, promotions, demotions"
+-- "len, retired_held, promotions, demotions"; document 02, S-5: "their sum, modulo 2^64, is the count .. printed"
 unfoldable pub countBytes : AdaptiveReceiverPacketWindow → List ℕ
-countBytes w = tabbed (w .len ∷ w .«retired_held» ∷ w .promotions ∷ w .demotions ∷ [])
+countBytes w = tabbed (w .len ∷ w .«retired_held» ∷ w .promotions ∷ demotionsOf w ∷ [])
 
 -- the letter, a tab, the answer, and the counts
 abbrev pub headBytes : ℕ → Answer → AdaptiveReceiverPacketWindow → List ℕ

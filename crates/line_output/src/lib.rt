@@ -14,6 +14,7 @@ ghost use lib.ListN.{length, take};
 ghost use Rattle.line_text.specs.PrintContracts.{Puts};
 ghost use Rattle.call_base.specs.Answers.{answerOf};
 ghost use Rattle.model.specs.Calls.{released};
+ghost use Rattle.model.specs.Steps.{demotionsOf};
 ghost use Rattle.line_output.specs.Output.{answerBytes, countBytes, headBytes, lineBytes, listBytes, unknownBytes};
 ghost use Rattle.line_output.specs.Contracts.{roomFor, pairsRoom, PutsIf};
 
@@ -44,6 +45,13 @@ fn put_released(out: &mut [u8], at: usize, values: u32, units: u32) -> usize
     put_marked(out, colon, b':', units as u64)
 }
 
+// The demotions of both causes, modulo 2^64.
+fn demotions(w: AdaptiveReceiverPacketWindow) -> u64
+    ensures { λ r. ⌜ r ≡ demotionsOf w ⌝ }
+{
+    std::num::wrapping_add_u64(w.single_demotions, w.range_demotions)
+}
+
 // The counts of the header: at most 84 bytes.
 fn put_counts(out: &mut [u8], at: usize, w: AdaptiveReceiverPacketWindow) -> usize
     requires { ⌜ at + 84 ≤ length (now out) ⌝ }
@@ -52,7 +60,7 @@ fn put_counts(out: &mut [u8], at: usize, w: AdaptiveReceiverPacketWindow) -> usi
     let first = put_marked(out, at, b'\t', w.len as u64);
     let second = put_marked(out, first, b'\t', w.retired_held as u64);
     let third = put_marked(out, second, b'\t', w.promotions);
-    put_marked(out, third, b'\t', w.demotions)
+    put_marked(out, third, b'\t', demotions(w))
 }
 
 // The letter, the answer and the counts: at most 127 bytes.

@@ -1,5 +1,5 @@
 -- Document 01's listing, its edge cases marked * as one list, its traps, iter's reads, stranger's cases, the acknowledge point, numbers of
--- more than 31 bits and the order of refusals, by computation on the definitions. Assumes nothing.
+-- more than 31 bits, demotions by cause and the order of refusals, by computation on the definitions. Assumes nothing.
 use mathlib.Core.Path.{_≡_, refl}
 use mathlib.Core.Bool.{true, false}
 use mathlib.Core.Option.{some}
@@ -18,7 +18,7 @@ use Rattle.model.specs.Point.{reach}
 use Rattle.model.specs.Positions.{Positions, positions, plain, drain, inPage, sweep, sweepRange, release, step, does}
 use Rattle.model.specs.Window.{Window, decode, freshWindow, cellOf, iterStep}
 use Rattle.model.specs.Pages.{freeCell, promoted, nthSet, packed, insertPage, drainPage}
-use Rattle.model.specs.Steps.{noteNonempty, splitBlock, releasePage, nextRetired, releaseUnits, revive, removeSlots, retireInBlock, retireBlock, retireBlocks, retirePages, retireStretch, retireRange, retireAll, releasePages, insertStep, exchangeStep, removeStep, frontStep, rangeStep, clearStep, clearBoundedStep, releaseStep, windowStep, windowDoes, Effect}
+use Rattle.model.specs.Steps.{setDemotions, withHeader, demotionsOf, noteNonempty, splitBlock, releasePage, nextRetired, releaseUnits, revive, removeSlots, retireInBlock, retireBlock, retireBlocks, retirePages, retireStretch, retireRange, retireAll, releasePages, insertStep, exchangeStep, removeStep, frontStep, rangeStep, clearStep, clearBoundedStep, releaseStep, windowStep, windowDoes, Effect}
 use Rattle.model.specs.Runs.{lent, afterNew, after, from, insertsFrom}
 use Rattle.model.proofs.NewLaws.{new-window, fresh-step}
 
@@ -36,7 +36,7 @@ line a l h p d xs = record { answer = a; len = l; held = h; promotions = p; demo
 
 abbrev lineOf : Effect → Line
 lineOf e =
-    line (e .answer) (e .after .header .len) (e .after .header .«retired_held») (e .after .header .promotions) (e .after .header .demotions) (e .returned)
+    line (e .answer) (e .after .header .len) (e .after .header .«retired_held») (e .after .header .promotions) (demotionsOf (e .after .header)) (e .returned)
 
 abbrev lines : Window → List Call → List Line
 lines w [] = []
@@ -208,6 +208,46 @@ wire-numbers : lines (afterNew 64 8 2)
     ∷ line (ended 0) 1 0 0 0 [] ∷ line new 2 0 0 0 [] ∷ line (found 53) 2 0 0 0 [] ∷ line (found 53) 1 0 0 0 [] ∷ line (found 50) 1 0 0 0 [] ∷ []
 unfolding firstFrom firstRound bitAt withBit countBelow span wordBelow lowest capacity freshHeader freshWindow rangeCount distance sum heldInRange searchFrom cellOf freeCell promoted nthSet packed insertPage drainPage noteNonempty splitBlock releasePage nextRetired releaseUnits revive removeSlots insertStep exchangeStep removeStep windowDoes iterStep
 wire-numbers = refl
+
+-- ---- document 02, S-5: demotions by cause
+
+-- what the header counts after a call: of remove and take_front, of remove_range, and their sum
+record Counts : Type 0 where
+  single : ℕ
+  range : ℕ
+  both : ℕ
+
+abbrev counts : (single range both : ℕ) → Counts
+counts s r b = record { single = s; range = r; both = b }
+
+abbrev counted : Window → List Call → List Counts
+counted w [] = []
+counted w (c ∷ cs) =
+    let v = windowStep w c .after in
+    counts (v .header .«single_demotions») (v .header .«range_demotions») (demotionsOf (v .header)) ∷ counted v cs
+
+-- pages 0 and 1 of two values each, dense: 5 and 10, 70 and 100; the counts as given
+abbrev twoDense : (single range : ℕ) → Window
+twoDense s r =
+    let w = after (afterNew 128 1 1) (insert 5 1 true ∷ insert 10 2 true ∷ insert 70 3 true ∷ insert 100 4 true ∷ []) in
+    withHeader w (setDemotions (w .header) s r)
+
+by-cause :
+    -- a remove that leaves one of two, and one that empties its page, which counts nothing; one that finds nothing; an insert, an exchange, a clear
+    (counted (twoDense 0 0) (remove 5 ∷ remove 10 ∷ remove 10 ∷ insert 6 5 true ∷ insert 7 6 true ∷ exchange 7 8 ∷ clear true ∷ [])
+    ≡ counts 1 0 1 ∷ counts 1 0 1 ∷ counts 1 0 1 ∷ counts 1 0 1 ∷ counts 1 0 1 ∷ counts 1 0 1 ∷ counts 1 0 1 ∷ [])
+    -- the front taken, and taken where it is absent
+    × (counted (twoDense 0 0) (set-base 5 ∷ take-front ∷ take-front ∷ set-base 10 ∷ take-front ∷ []) ≡ counts 0 0 0 ∷ counts 1 0 1 ∷ counts 1 0 1 ∷ counts 1 0 1 ∷ counts 1 0 1 ∷ [])
+    -- a range with two partial pages, each of which it leaves with one value; then one that empties both
+    × (counted (twoDense 0 0) (remove-range 6 80 true ∷ remove-range 1 101 true ∷ []) ≡ counts 0 2 2 ∷ counts 0 2 2 ∷ [])
+    -- inside one page; a page emptied; a range that is refused
+    × (counted (twoDense 0 0) (remove-range 4 6 true ∷ remove-range 70 100 true ∷ remove-range 5 4 true ∷ []) ≡ counts 0 1 1 ∷ counts 0 1 1 ∷ counts 0 1 1 ∷ [])
+    -- each modulo 2^64, and their sum too
+    × (counted (twoDense 18446744073709551615 18446744073709551615) (remove 5 ∷ remove-range 70 70 true ∷ [])
+    ≡ counts 0 18446744073709551615 18446744073709551615 ∷ counts 0 0 0 ∷ [])
+    × (counted (twoDense 18446744073709551615 2) (release-retired 256 true ∷ []) ≡ counts 18446744073709551615 2 1 ∷ [])
+unfolding reach firstFrom firstRound bitAt withBit countBelow span wordBelow lowest capacity freshHeader freshWindow rangeCount distance sum heldInRange searchFrom cellOf freeCell promoted nthSet packed insertPage drainPage noteNonempty splitBlock releasePage nextRetired releaseUnits revive removeSlots retireInBlock retireBlock retireBlocks retirePages retireStretch retireRange retireAll releasePages insertStep exchangeStep rangeStep clearStep clearBoundedStep releaseStep windowDoes removeStep frontStep
+by-cause = (refl, refl, refl, refl, refl, refl)
 
 -- ---- the order of the refusals for arguments: 6, then 10, then 5, 8 or 9; after 5, of a loss report that is read, 11 and 12
 

@@ -9,6 +9,8 @@ use lib.ListN.{length}
 use Rattle.words.specs.First.{firstRound}
 use Rattle.words.specs.Word.{isSet, withBit, setBit, clearBit, wordOf, span}
 use Rattle.window.specs.declared.AdaptiveReceiverPacketWindow.{AdaptiveReceiverPacketWindow}
+use Rattle.window.specs.declared.Cause.{Cause}
+use Rattle.window.specs.declared.Cause.the-variants.{Single, Range}
 use Rattle.window.specs.Memory.{position}
 use Rattle.model.specs.Calls.{Query, get, successor-after, first-from, iter, stranger, check, write-losses, read-losses, Call, insert, exchange, remove, remove-range, clear, clear-bounded, release-retired, set-base, take-front, ask, Answer, done, new, replaced, absent, found, pair, ended, released, refused}
 use Rattle.model.specs.Losses.{namedFlags, lostCount}
@@ -19,8 +21,8 @@ use Rattle.model.specs.Pages.{valuesIn, holdsValue, setValue, takeCell, 
 
 -- ---- changes of the header, one field each
 
-abbrev pub headerWith : AdaptiveReceiverPacketWindow → (len retiredHeld cursor summary retiredBlocks promotions demotions : ℕ) → AdaptiveReceiverPacketWindow
-headerWith h len retiredHeld cursor summary retiredBlocks promotions demotions = record {
+abbrev pub headerWith : AdaptiveReceiverPacketWindow → (len retiredHeld cursor summary retiredBlocks promotions single range : ℕ) → AdaptiveReceiverPacketWindow
+headerWith h len retiredHeld cursor summary retiredBlocks promotions single range = record {
   «window_size» = h .«window_size»;
   n = h .n;
   «demote_at» = h .«demote_at»;
@@ -32,29 +34,35 @@ headerWith h len retiredHeld cursor summary retiredBlocks promotions demotions =
   «nonempty_summary» = summary;
   «retired_blocks» = retiredBlocks;
   promotions = promotions;
-  demotions = demotions;
+  «single_demotions» = single;
+  «range_demotions» = range;
 }
 
 abbrev pub setLen : AdaptiveReceiverPacketWindow → ℕ → AdaptiveReceiverPacketWindow
-setLen h x = headerWith h x (h .«retired_held») (h .«release_cursor») (h .«nonempty_summary») (h .«retired_blocks») (h .promotions) (h .demotions)
+setLen h x = headerWith h x (h .«retired_held») (h .«release_cursor») (h .«nonempty_summary») (h .«retired_blocks») (h .promotions) (h .«single_demotions») (h .«range_demotions»)
 
 abbrev pub setHeld : AdaptiveReceiverPacketWindow → ℕ → AdaptiveReceiverPacketWindow
-setHeld h x = headerWith h (h .len) x (h .«release_cursor») (h .«nonempty_summary») (h .«retired_blocks») (h .promotions) (h .demotions)
+setHeld h x = headerWith h (h .len) x (h .«release_cursor») (h .«nonempty_summary») (h .«retired_blocks») (h .promotions) (h .«single_demotions») (h .«range_demotions»)
 
 abbrev pub setCursor : AdaptiveReceiverPacketWindow → ℕ → AdaptiveReceiverPacketWindow
-setCursor h x = headerWith h (h .len) (h .«retired_held») x (h .«nonempty_summary») (h .«retired_blocks») (h .promotions) (h .demotions)
+setCursor h x = headerWith h (h .len) (h .«retired_held») x (h .«nonempty_summary») (h .«retired_blocks») (h .promotions) (h .«single_demotions») (h .«range_demotions»)
 
 abbrev pub setSummary : AdaptiveReceiverPacketWindow → ℕ → AdaptiveReceiverPacketWindow
-setSummary h x = headerWith h (h .len) (h .«retired_held») (h .«release_cursor») x (h .«retired_blocks») (h .promotions) (h .demotions)
+setSummary h x = headerWith h (h .len) (h .«retired_held») (h .«release_cursor») x (h .«retired_blocks») (h .promotions) (h .«single_demotions») (h .«range_demotions»)
 
 abbrev pub setRetiredBlocks : AdaptiveReceiverPacketWindow → ℕ → AdaptiveReceiverPacketWindow
-setRetiredBlocks h x = headerWith h (h .len) (h .«retired_held») (h .«release_cursor») (h .«nonempty_summary») x (h .promotions) (h .demotions)
+setRetiredBlocks h x = headerWith h (h .len) (h .«retired_held») (h .«release_cursor») (h .«nonempty_summary») x (h .promotions) (h .«single_demotions») (h .«range_demotions»)
 
 abbrev pub setPromotions : AdaptiveReceiverPacketWindow → ℕ → AdaptiveReceiverPacketWindow
-setPromotions h x = headerWith h (h .len) (h .«retired_held») (h .«release_cursor») (h .«nonempty_summary») (h .«retired_blocks») x (h .demotions)
+setPromotions h x = headerWith h (h .len) (h .«retired_held») (h .«release_cursor») (h .«nonempty_summary») (h .«retired_blocks») x (h .«single_demotions») (h .«range_demotions»)
 
-abbrev pub setDemotions : AdaptiveReceiverPacketWindow → ℕ → AdaptiveReceiverPacketWindow
-setDemotions h x = headerWith h (h .len) (h .«retired_held») (h .«release_cursor») (h .«nonempty_summary») (h .«retired_blocks») (h .promotions) x
+abbrev pub setDemotions : AdaptiveReceiverPacketWindow → (single range : ℕ) → AdaptiveReceiverPacketWindow
+setDemotions h single range = headerWith h (h .len) (h .«retired_held») (h .«release_cursor») (h .«nonempty_summary») (h .«retired_blocks») (h .promotions) single range
+
+-- what retiring changes of a header
+abbrev pub retiringHeader : AdaptiveReceiverPacketWindow → (len retiredHeld retiredBlocks : ℕ) → AdaptiveReceiverPacketWindow
+retiringHeader h len retiredHeld retiredBlocks =
+    headerWith h len retiredHeld (h .«release_cursor») (h .«nonempty_summary») retiredBlocks (h .promotions) (h .«single_demotions») (h .«range_demotions»)
 
 -- base and point, which the calls of document 01 leave as they are
 abbrev pub headerFrom : AdaptiveReceiverPacketWindow → (base point : ℕ) → AdaptiveReceiverPacketWindow
@@ -70,7 +78,8 @@ headerFrom h base point = record {
   «nonempty_summary» = h .«nonempty_summary»;
   «retired_blocks» = h .«retired_blocks»;
   promotions = h .promotions;
-  demotions = h .demotions;
+  «single_demotions» = h .«single_demotions»;
+  «range_demotions» = h .«range_demotions»;
 }
 
 abbrev pub setBase : AdaptiveReceiverPacketWindow → ℕ → AdaptiveReceiverPacketWindow
@@ -129,8 +138,25 @@ subLive w b k =
 abbrev pub countPromotion : Window → Bool → Window
 countPromotion w happened = withHeader w (setPromotions (w .header) ((w .header .promotions + one happened) % 2 ^ 64))
 
-abbrev pub countDemotion : Window → Bool → Window
-countDemotion w happened = withHeader w (setDemotions (w .header) ((w .header .demotions + one happened) % 2 ^ 64))
+-- document 02, S-5: "In place of demotions the header holds two counts, of those in remove and taking the front and of those in
+-- remove_range, each modulo 2^64": the count of the cause is raised, the other stays
+abbrev pub isCause : Cause → Cause → Bool
+isCause Single Single = true
+isCause Single Range = false
+isCause Range Single = false
+isCause Range Range = true
+
+abbrev pub raisedIf : Bool → ℕ → Bool → ℕ
+raisedIf own count happened = cond own ((count + one happened) % 2 ^ 64) count
+
+abbrev pub countDemotion : Cause → Window → Bool → Window
+countDemotion c w happened =
+    let h = w .header in
+    withHeader w (setDemotions h (raisedIf (isCause Single c) (h .«single_demotions») happened) (raisedIf (isCause Range c) (h .«range_demotions») happened))
+
+-- "their sum, modulo 2^64, is the count compared with the source and printed"
+abbrev pub demotionsOf : AdaptiveReceiverPacketWindow → ℕ
+demotionsOf h = (h .«single_demotions» + h .«range_demotions») % 2 ^ 64
 
 -- the retired word of block b
 abbrev pub setMarks : Window → ℕ → ℕ → Window
@@ -219,7 +245,7 @@ removeSlots w g P =
     let demoteAt = w .header .«demote_at» in
     cond (isRetired w g || not (holdsValue (w .pages g))) (returnedBy w [])
     (returnedBy
-    (countDemotion (putPage (subLive w (g / 64) (length (d .out))) g (afterRemoval demoteAt (d .page))) (demotes demoteAt (d .page)))
+    (countDemotion Range (putPage (subLive w (g / 64) (length (d .out))) g (afterRemoval demoteAt (d .page))) (demotes demoteAt (d .page)))
     (d .out))
 
 -- pages of block b from `from` up to `to`
@@ -356,7 +382,7 @@ removeStep w s =
     let demoteAt = w .header .«demote_at» in
     effect
     (cond (finds s (liveHere w s))
-    (countDemotion (putPage (subLive w (g / 64) 1) g (afterRemoval demoteAt p)) (demotes demoteAt p))
+    (countDemotion Single (putPage (subLive w (g / 64) 1) g (afterRemoval demoteAt p)) (demotes demoteAt p))
     w)
     (valueIf s (liveHere w s)) []
 

@@ -1,11 +1,11 @@
--- A page whose values are in their places: the cell of each position, and a cell taken out of use. Assumes nothing.
+-- A page whose values are in their places: the cell of each position, a cell taken out of use, and how many values it holds. Assumes nothing.
 use mathlib.Core.Path.{_≡_, refl, sym, ap, _∙_}
-use mathlib.Core.Bool.{Bool, true, false, _&&_}
+use mathlib.Core.Bool.{Bool, true, false, not, _&&_}
 use Prim.Native.Nat.{ℕ, zero, suc, _-_, _%_, _≤_, _<_}
 use native.Mathlib.Omega.{arith}
 use native.Mathlib.Decide.{ℕ-discrete}
 use lib.Dec.{eqb}
-use borrow.Author.Tests.{eq-eqb, eqb-true}
+use borrow.Author.Tests.{eq-eqb, ne-eqb, eqb-true}
 use Rattle.words.proofs.CaseLaws.{bool, both}
 use Rattle.words.proofs.FirstLaws.{first-is, first-eq}
 use Rattle.words.specs.Word.{bitAt, isSet, clearBit, count, lowest}
@@ -15,7 +15,7 @@ use Rattle.words.proofs.CountLaws.{count-clear, count-zero, count-none}
 use Rattle.words.proofs.LowestLaws.{lowest-is, lowest-some}
 use Rattle.model.specs.Window.{Page, cellOf}
 use Rattle.model.specs.Sound.{Used, SoundPage}
-use Rattle.model.specs.Pages.{takeCell}
+use Rattle.model.specs.Pages.{valuesIn, holdsValue, takeCell}
 use Rattle.page_base.specs.Page.{Placed, Here}
 
 pub placed : (n cap g : ℕ) (p : Page) → SoundPage n cap g p → Placed n p
@@ -181,3 +181,11 @@ same-count n (suc k) p ok e =
 
 pub placed-count : (n : ℕ) (p : Page) → Placed n p → count (p .occupied) ≡ count (p .filled)
 placed-count n p ok = same-count n (count (p .filled)) p ok refl
+
+-- it holds a value just if the number of its values is not 0
+pub placed-holds : (n : ℕ) (p : Page) → Placed n p → holdsValue p ≡ not (eqb (valuesIn p) 0)
+placed-holds n p ok =
+    elim (ℕ-discrete (p .occupied) 0) [
+      | yes z ↦ rw (eq-eqb (p .occupied) 0 z, eq-eqb (valuesIn p) 0 (ap count z ∙ count-none 64))
+      | no z ↦ rw (ne-eqb (p .occupied) 0 z, ne-eqb (valuesIn p) 0 (λ e. z (count-zero 64 (p .occupied) (ok .occupied-fits) e)))
+    ]

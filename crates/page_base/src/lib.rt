@@ -16,6 +16,12 @@ pub struct PageWords {
     pub filled: u64,
 }
 
+// What a removal left of a page: how many values it holds, and whether it became sparse.
+pub struct Left {
+    pub values: usize,
+    pub demoted: bool,
+}
+
 // The words of one page.
 pub fn page_words(pages: &[u64], page: usize) -> PageWords
     requires { ⌜ (page < 1024) × rowIn pageWords page (now pages) ⌝ }

@@ -1,6 +1,6 @@
--- A removal by sequence: what stands afterwards, the answer, soundness and the number of values. Assumes nothing.
+-- A removal by sequence: what stands afterwards, the answer, soundness, the number of values, and what it says that it left. Assumes nothing.
 use mathlib.Core.Path.{_≡_, refl, sym, ap, _∙_}
-use mathlib.Core.Bool.{true, false, cond}
+use mathlib.Core.Bool.{true, false, cond, not}
 use mathlib.Core.Option.{Option, none, some}
 use Prim.Native.Nat.{ℕ, _+_, _%_, _≤_, _<_}
 use native.Mathlib.Omega.{arith}
@@ -10,14 +10,14 @@ use Rattle.words.specs.Word.{count}
 use Rattle.words.proofs.BitLaws.{bit-none}
 use Rattle.model.specs.Table.{Pair, valueIf, removeAt, finds}
 use Rattle.model.specs.Window.{Page, cellOf, standsAt}
-use Rattle.model.specs.Pages.{words, takeCell, packed, unlessEmptied, demotes, afterRemoval}
+use Rattle.model.specs.Pages.{words, valuesIn, holdsValue, takeCell, packed, unlessEmptied, afterRemoval}
 use Rattle.model.specs.Sound.{SoundPage}
 use Rattle.page_base.specs.Page.{Placed, Here}
 use Rattle.page_base.specs.Contracts.{readOf}
-use Rattle.page_base.proofs.PlaceLaws.{placed, take-placed, all-here, sound-of}
+use Rattle.page_base.proofs.PlaceLaws.{placed, take-placed, all-here, sound-of, placed-holds}
 use Rattle.page_base.proofs.ReadLaws.{Found, found-cell, finds-at}
 use Rattle.page_base.proofs.ExchangeLaws.{at-found, at-absent}
-use Rattle.page_remove.specs.Remove.{RemovedPage, removePage}
+use Rattle.page_remove.specs.Remove.{settledPage, settlePage, RemovedPage, removedPage, removePage}
 use Rattle.page_remove.proofs.StandLaws.{clear-fewer, take-stands, take-count, packed-occupied, packed-used, packed-sequence, packed-from, packed-placed, emptied-placed, unless-cases, after-cases, after-stands, after-placed, after-count, after-dense}
 use Rattle.page_remove.proofs.NthLaws.{nth-is}
 
@@ -31,11 +31,11 @@ module _ (p : Page) (s : ℕ) where
   -- ---- a removal
 
   pub remove-when-found : (d : ℕ) → finds s (standsAt p (s % 64)) ≡ true
-      → removePage d p s ≡ record { page = afterRemoval d (takeCell p (cellOf p (s % 64))); answer = readOf p s; demoted = demotes d (takeCell p (cellOf p (s % 64))) }
+      → removePage d p s ≡ removedPage (settlePage d (takeCell p (cellOf p (s % 64)))) (readOf p s)
   unfolding removePage
   remove-when-found d t = rw t
 
-  pub remove-when-absent : (d : ℕ) → finds s (standsAt p (s % 64)) ≡ false → removePage d p s ≡ record { page = p; answer = readOf p s; demoted = false }
+  pub remove-when-absent : (d : ℕ) → finds s (standsAt p (s % 64)) ≡ false → removePage d p s ≡ removedPage (settledPage p false) (readOf p s)
   unfolding removePage
   remove-when-absent d t = rw t
 
@@ -77,6 +77,27 @@ module _ (n : ℕ) (p : Page) (ok : Placed n p) (s d : ℕ) where
       let c = cellOf p (s % 64) in
       let f = found-cell p s t in
       omega (arith, ap (λ (r : RemovedPage). count (r .page .occupied)) (remove-when-found p s d t), after-count (takeCell p c) d, take-count n p ok c (f .inside) (f .used))
+
+-- ---- whether it left a value, by the number that it left
+
+-- a page holds a value just if the number of its values is not 0
+abbrev Told : Page → Type 0
+Told p = holdsValue p ≡ not (eqb (valuesIn p) 0)
+
+module _ (n : ℕ) (p : Page) (ok : Placed n p) (d : ℕ) where
+  pub settled-told : Told (afterRemoval d p)
+  settled-told =
+      let told = placed-holds n p ok in
+      after-cases Told p d (λ k o few. rw (packed-occupied p) told) (λ e. placed-holds n (words 0 0 0 p) (emptied-placed n p)) (λ o more. told)
+
+remove-left : (p : Page) (s d : ℕ) → removePage d p s .left .values ≡ valuesIn (removePage d p s .page)
+remove-left p s d =
+    bool (finds s (standsAt p (s % 64))) (λ t. rw (remove-when-found p s d t)) (λ t. rw (remove-when-absent p s d t))
+
+pub removed-told : (n : ℕ) (p : Page) → Placed n p → (s d : ℕ) → holdsValue (removePage d p s .page) ≡ not (eqb (removePage d p s .left .values) 0)
+removed-told n p ok s d =
+    remove-cases p s Told d (λ t c f. settled-told n (takeCell p c) (take-placed n p ok c (f .inside) (f .used)) d) (λ t. placed-holds n p ok)
+    ∙ ap (λ (x : ℕ). not (eqb x 0)) (sym (remove-left p s d))
 
 -- ---- soundness
 

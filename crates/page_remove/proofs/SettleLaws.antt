@@ -1,11 +1,13 @@
 -- A cell taken out, a page settled after it, and a removal, over plain variables. Assumes nothing.
 use mathlib.Core.Path.{_≡_, sym, ap, _∙_}
-use mathlib.Core.Bool.{true, false}
+use mathlib.Core.Bool.{Bool, true, false}
 use mathlib.Core.List.{List}
 use Prim.Native.Nat.{ℕ, _%_, _≤_, _<_}
+use native.Mathlib.Omega.{arith}
 use lib.Dec.{eqb}
 use borrow.Author.Tests.{eq-eqb, ne-eqb, le-leb, lt-leb}
 use Rattle.words.proofs.CaseLaws.{bool}
+use Rattle.words.proofs.CountLaws.{count-none}
 use Rattle.words.specs.Word.{clearBit, count}
 use Rattle.model.specs.Calls.{absent, found}
 use Rattle.model.specs.Window.{Page}
@@ -14,7 +16,8 @@ use Rattle.page_base.specs.declared.PageWords.{PageWords}
 use Rattle.page_base.specs.Page.{cells, page}
 use Rattle.page_base.specs.Contracts.{cellWith}
 use Rattle.page_base.proofs.ReadLaws.{with-cell, with-read, without-cell, without-read}
-use Rattle.page_remove.specs.Remove.{takenWords, SettledPage, settlePage, RemovedPage, removePage}
+use Rattle.page_remove.specs.Remove.{takenWords, SettledPage, settlePage, removedPage, removePage}
+use Rattle.page_remove.proofs.StandLaws.{packed-occupied}
 
 -- cell c holds a sequence of position j
 pub page-taken : (w : PageWords) (ss vs : List ℕ) (j c : ℕ) → cells ss c % 64 ≡ j → page (takenWords w j c) ss vs ≡ takeCell (page w ss vs) c
@@ -26,32 +29,39 @@ page-taken w ss vs j c e = λ i. record {
   values = cells vs;
 }
 
+-- a page, n values in it, and whether it was demoted
+abbrev pub settled : Page → ℕ → Bool → SettledPage
+settled p n demoted = record { page = p; left = record { values = n; demoted = demoted } }
+
 module _ (d : ℕ) (p : Page) where
-  pub settle-empty : p .occupied ≡ 0 → _≡_ {A = SettledPage} (record { page = words 0 0 0 p; demoted = false }) (settlePage d p)
-  settle-empty e = bool (eqb (p .kind) 2) (λ k. rw (k, eq-eqb (p .occupied) 0 e)) (λ k. rw (k, eq-eqb (p .occupied) 0 e))
+  pub settle-empty : p .occupied ≡ 0 → settled (words 0 0 0 p) 0 false ≡ settlePage d p
+  settle-empty e =
+      let none = ap (λ (n : ℕ). settled (words 0 0 0 p) n false) (sym (count-none 64)) in
+      bool (eqb (p .kind) 2) (λ k. rw (k, eq-eqb (p .occupied) 0 e) none) (λ k. rw (k, eq-eqb (p .occupied) 0 e) none)
 
-  pub settle-demoted : p .kind ≡ 2 → (p .occupied ≡ 0 → ⊥) → count (p .occupied) ≤ d
-      → _≡_ {A = SettledPage} (record { page = packed p; demoted = true }) (settlePage d p)
-  settle-demoted k o l = rw (eq-eqb (p .kind) 2 k, ne-eqb (p .occupied) 0 o, le-leb (count (p .occupied)) d l)
+  pub settle-demoted : (n : ℕ) → n ≡ count (p .occupied) → p .kind ≡ 2 → (p .occupied ≡ 0 → ⊥) → n ≤ d → settled (packed p) n true ≡ settlePage d p
+  settle-demoted n e k o l =
+      rw (eq-eqb (p .kind) 2 k, ne-eqb (p .occupied) 0 o, le-leb (count (p .occupied)) d (omega arith))
+      (ap (λ (x : ℕ). settled (packed p) x true) (e ∙ ap count (sym (packed-occupied p))))
 
-  pub settle-full : (p .occupied ≡ 0 → ⊥) → d < count (p .occupied) → _≡_ {A = SettledPage} (record { page = p; demoted = false }) (settlePage d p)
-  settle-full o l =
+  pub settle-full : (n : ℕ) → n ≡ count (p .occupied) → (p .occupied ≡ 0 → ⊥) → d < n → settled p n false ≡ settlePage d p
+  settle-full n e o l =
+      let same = ap (λ (x : ℕ). settled p x false) e in
       bool (eqb (p .kind) 2)
-      (λ k. rw (k, ne-eqb (p .occupied) 0 o, lt-leb (count (p .occupied)) d l))
-      (λ k. rw (k, ne-eqb (p .occupied) 0 o))
+      (λ k. rw (k, ne-eqb (p .occupied) 0 o, lt-leb (count (p .occupied)) d (omega arith)) same)
+      (λ k. rw (k, ne-eqb (p .occupied) 0 o) same)
 
-  pub settle-sparse : (p .occupied ≡ 0 → ⊥) → (p .kind ≡ 2 → ⊥) → _≡_ {A = SettledPage} (record { page = p; demoted = false }) (settlePage d p)
-  settle-sparse o k = rw (ne-eqb (p .kind) 2 k, ne-eqb (p .occupied) 0 o)
+  pub settle-sparse : (n : ℕ) → n ≡ count (p .occupied) → (p .occupied ≡ 0 → ⊥) → (p .kind ≡ 2 → ⊥) → settled p n false ≡ settlePage d p
+  settle-sparse n e o k = rw (ne-eqb (p .kind) 2 k, ne-eqb (p .occupied) 0 o) (ap (λ (x : ℕ). settled p x false) e)
 
   -- the sequence is in cell c
   pub remove-found : (s c v : ℕ) (r : SettledPage) → c ≡ cellWith p s → c < 64 → v ≡ p .values c → r ≡ settlePage d (takeCell p c)
-      → _≡_ {A = RemovedPage} (record { page = r .page; answer = found v; demoted = r .demoted }) (removePage d p s)
+      → removedPage r (found v) ≡ removePage d p s
   unfolding removePage
   remove-found s c v r e l z q =
       let t = with-cell p s c e l in
-      let u = q ∙ ap (λ (x : ℕ). settlePage d (takeCell p x)) (t .0) in
-      rw (t .2) (λ i. record { page = u i .page; answer = (ap found z ∙ with-read p s c e l) i; demoted = u i .demoted })
+      rw (t .2) (λ i. removedPage ((q ∙ ap (λ (x : ℕ). settlePage d (takeCell p x)) (t .0)) i) ((ap found z ∙ with-read p s c e l) i))
 
-  pub remove-absent : (s c : ℕ) → c ≡ cellWith p s → 64 ≤ c → _≡_ {A = RemovedPage} (record { page = p; answer = absent; demoted = false }) (removePage d p s)
+  pub remove-absent : (s c n : ℕ) → c ≡ cellWith p s → 64 ≤ c → n ≡ count (p .occupied) → removedPage (settled p n false) absent ≡ removePage d p s
   unfolding removePage
-  remove-absent s c e l = rw (without-cell p s c e l) (λ i. record { page = p; answer = without-read p s c e l i; demoted = false })
+  remove-absent s c n e l z = rw (without-cell p s c e l) (λ i. removedPage (settled p (z i) false) (without-read p s c e l i))

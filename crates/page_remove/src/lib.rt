@@ -2,6 +2,7 @@
 // 64 × page.
 pub mod drain;
 
+use page_base::Left;
 use page_base::PageWords;
 use page_base::find::Read;
 use page_base::find::find;
@@ -15,17 +16,17 @@ ghost use Rattle.page_base.specs.Page.{cells as cellsOf, page as pageOf};
 ghost use Rattle.page_remove.specs.Remove.{packedCells, takenWords, settledOf, settlePage};
 ghost use Rattle.page_remove.specs.Contracts.{Removes};
 
-// The words of a page after a removal, and whether it was demoted.
+// The words of a page after a removal, and what it left there.
 pub struct Settled {
     pub words: PageWords,
-    pub demoted: bool,
+    pub left: Left,
 }
 
 // The same, and what the removal answers.
 pub struct Removed {
     pub words: PageWords,
     pub answer: Read,
-    pub demoted: bool,
+    pub left: Left,
 }
 
 // The words once cell c, whose value is at position `slot`, is no longer in use.
@@ -87,24 +88,28 @@ pub fn settle(sequences: &mut [u32], values: &mut [u32], w: PageWords, demote_at
             occupied: 0,
             filled: 0,
         };
-        return Settled {
-            words: empty,
+        let left = Left {
+            values: 0,
             demoted: false,
         };
+        return Settled { words: empty, left };
     }
+    let count = words::count(occupied);
     if kind == 2 {
-        if words::count(occupied) <= demote_at {
+        if count <= demote_at {
             let words = demote(sequences, values, w);
-            return Settled {
-                words,
+            let left = Left {
+                values: count,
                 demoted: true,
             };
+            return Settled { words, left };
         }
     }
-    Settled {
-        words: w,
+    let left = Left {
+        values: count,
         demoted: false,
-    }
+    };
+    Settled { words: w, left }
 }
 
 // The value of the sequence taken out of the page.
@@ -122,19 +127,24 @@ pub fn remove(
     let slot = (sequence % 64) as usize;
     let c = find(sequences, w, n, sequence);
     if PAGE_SLOTS <= c {
+        let left = Left {
+            values: words::count(w.occupied),
+            demoted: false,
+        };
         return Removed {
             words: w,
             answer: Read::Absent,
-            demoted: false,
+            left,
         };
     }
     let value = values[c];
     let taken = take_cell(w, slot, c);
     let s = settle(sequences, values, taken, demote_at);
     let words = s.words;
+    let left = s.left;
     Removed {
         words,
         answer: Read::Value(value),
-        demoted: s.demoted,
+        left,
     }
 }

@@ -1,5 +1,5 @@
 -- One change of the header and of a block's words after another, over plain variables. Assumes nothing.
-use mathlib.Core.Path.{_≡_, refl, sym, ap, _∙_}
+use mathlib.Core.Path.{_≡_, refl, sym, ap, _∙_, subst}
 use mathlib.Core.Bool.{Bool, true, false}
 use Prim.Native.Nat.{ℕ, _+_, _-_, _/_, _%_, _^_, _<_}
 use native.Mathlib.Nat.{mod-eq-of-lt}
@@ -9,15 +9,18 @@ use borrow.Author.Tests.{eq-eqb, ne-eqb}
 use Rattle.words.proofs.CaseLaws.{bool}
 use Rattle.words.specs.Word.{clearBit}
 use Rattle.window.specs.declared.AdaptiveReceiverPacketWindow.{AdaptiveReceiverPacketWindow}
+use Rattle.window.specs.declared.Cause.{Cause}
+use Rattle.window.specs.declared.Cause.the-variants.{Single, Range}
 use Rattle.model.specs.Window.{Window, Block, upd}
 use Rattle.model.specs.Pages.{holdsValue}
 use Rattle.model.specs.Steps.{setRetired, withHeader, withBlock, setHeld, setMarks, noteNonempty, addLive, subLive, countPromotion, countDemotion, dropBlockMarks}
+use Rattle.page_base.specs.declared.Left.{Left}
 use Rattle.block_marks.specs.declared.BlockWords.{BlockWords}
 use Rattle.block_marks.specs.declared.Change.{Change}
 use Rattle.block_marks.specs.Blocks.{blockOf, changed}
 use Rattle.block_marks.specs.Marks.{withoutMark}
 use Rattle.block_marks.specs.Contracts.{ChangesHeader, Notes, AddsLive, TakesLive}
-use Rattle.page_store.specs.Contracts.{Inserted, Removed, Released, noteReleased}
+use Rattle.page_store.specs.Contracts.{Inserted, Removed, Released, anyLeft, noteReleased}
 
 -- ---- a block's words written, and written again
 
@@ -43,8 +46,14 @@ none-counted x l = let e : x + 0 ≡ x = omega arith in ap (λ (y : ℕ). y % 2 
 no-promotion : (v : Window) → v .header .promotions < 2 ^ 64 → countPromotion v false ≡ v
 no-promotion v l = rw (none-counted (v .header .promotions) l)
 
-no-demotion : (v : Window) → v .header .demotions < 2 ^ 64 → countDemotion v false ≡ v
-no-demotion v l = rw (none-counted (v .header .demotions) l)
+-- both counts of demotions have room, as every u64
+pub record Room (h : AdaptiveReceiverPacketWindow) : Type 0 where
+  pub single : h .«single_demotions» < 2 ^ 64
+  pub range : h .«range_demotions» < 2 ^ 64
+
+no-demotion : (c : Cause) (v : Window) → Room (v .header) → countDemotion c v false ≡ v
+no-demotion Single v l = rw (none-counted (v .header .«single_demotions») (l .single))
+no-demotion Range v l = rw (none-counted (v .header .«range_demotions») (l .range))
 
 -- counted or not, as the test says
 pub record Counted (step : Window → Bool → Window) (happened : Bool) (h r : AdaptiveReceiverPacketWindow) : Type 0 where
@@ -59,12 +68,11 @@ module _ (happened : Bool) (h r : AdaptiveReceiverPacketWindow) where
       (λ q. t .when q .gives v e ∙ ap (countPromotion v) (sym q))
       (λ q. ap (withHeader v) (t .unless q ∙ sym e) ∙ sym (no-promotion v (omega arith)) ∙ ap (countPromotion v) (sym q))
 
-  pub demotion : Counted countDemotion happened h r → h .demotions < 2 ^ 64 → (v : Window) → v .header ≡ h → withHeader v r ≡ countDemotion v happened
-  demotion t l v e =
-      let z = ap (λ (x : AdaptiveReceiverPacketWindow). x .demotions) e in
+  pub demotion : (c : Cause) → Counted (countDemotion c) happened h r → Room h → (v : Window) → v .header ≡ h → withHeader v r ≡ countDemotion c v happened
+  demotion c t l v e =
       bool happened
-      (λ q. t .when q .gives v e ∙ ap (countDemotion v) (sym q))
-      (λ q. ap (withHeader v) (t .unless q ∙ sym e) ∙ sym (no-demotion v (omega arith)) ∙ ap (countDemotion v) (sym q))
+      (λ q. t .when q .gives v e ∙ ap (countDemotion c v) (sym q))
+      (λ q. ap (withHeader v) (t .unless q ∙ sym e) ∙ sym (no-demotion c v (subst Room (sym e) l)) ∙ ap (countDemotion c v) (sym q))
 
 -- ---- what noting a page leaves
 
@@ -76,9 +84,9 @@ noted-promotions : (v : Window) (g : ℕ) → noteNonempty v g .header .promotio
 unfolding noteNonempty
 noted-promotions v g = refl
 
-noted-demotions : (v : Window) (g : ℕ) → noteNonempty v g .header .demotions ≡ v .header .demotions
+noted-room : (v : Window) (g : ℕ) → Room (v .header) → Room (noteNonempty v g .header)
 unfolding noteNonempty
-noted-demotions v g = refl
+noted-room v g l = record { single = l .single; range = l .range }
 
 noted-live : (v : Window) (g : ℕ) → noteNonempty v g .blocks (g / 64) .live ≡ v .blocks (g / 64) .live
 unfolding noteNonempty
@@ -108,19 +116,19 @@ module _ (h : AdaptiveReceiverPacketWindow) (x : BlockWords) (g : ℕ) where
   }
 
   -- ---- a removal
-  pub remove-gives : (holds demoted : Bool) (k : ℕ) (fewer noted r : Change) → TakesLive h x k fewer → Notes (fewer .window) (fewer .block) g holds noted
-      → Counted countDemotion demoted (noted .window) (r .window) → r .block ≡ noted .block → h .demotions < 2 ^ 64 → Removed h x g holds demoted k r
-  remove-gives holds demoted k fewer noted r t n c same l = record {
+  pub remove-gives : (left : Left) (c : Cause) (k : ℕ) (fewer noted r : Change) → TakesLive h x k fewer → Notes (fewer .window) (fewer .block) g (anyLeft left) noted
+      → Counted (countDemotion c) (left .demoted) (noted .window) (r .window) → r .block ≡ noted .block → Room h → Removed h x g left c k r
+  remove-gives left c k fewer noted r t n s same l = record {
     gives = λ v e f q.
         let u = changed v b fewer in
         let w = changed u b noted in
         let first = t .gives b .gives v e f in
         let second : w ≡ noteNonempty (subLive v b k) g = n .gives u refl (upd-same (v .blocks) b (blockOf (fewer .block))) q ∙ ap (λ (y : Window). noteNonempty y g) first in
-        let few : noted .window .demotions ≡ h .demotions = ap (λ (y : Window). y .header .demotions) second ∙ noted-demotions (subLive v b k) g ∙ ap (λ (y : AdaptiveReceiverPacketWindow). y .demotions) e in
+        let room = subst (λ (y : Window). Room (y .header)) (sym second) (noted-room (subLive v b k) g (record { single = subst Room (sym e) l .single; range = subst Room (sym e) l .range })) in
         ap (λ (y : BlockWords). withBlock (withHeader v (r .window)) b (blockOf y)) same
         ∙ sym (again v b fewer (record { window = r .window; block = noted .block }) (fewer .window))
-        ∙ demotion demoted (noted .window) (r .window) c (omega arith) w refl
-        ∙ ap (λ (y : Window). countDemotion y demoted) second;
+        ∙ demotion (left .demoted) (noted .window) (r .window) c s room w refl
+        ∙ ap (λ (y : Window). countDemotion c y (left .demoted)) second;
   }
 
   -- ---- a release

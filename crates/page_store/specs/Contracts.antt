@@ -7,9 +7,11 @@ use Prim.Native.Nat.{ℕ, _+_, _-_, _/_, _%_, _^_, _<_}
 use lib.Dec.{eqb}
 use Rattle.words.specs.Word.{clearBit}
 use Rattle.window.specs.declared.AdaptiveReceiverPacketWindow.{AdaptiveReceiverPacketWindow}
+use Rattle.window.specs.declared.Cause.{Cause}
 use Rattle.model.specs.Window.{Window}
 use Rattle.model.specs.Pages.{holdsValue}
 use Rattle.model.specs.Steps.{withHeader, setHeld, noteNonempty, addLive, subLive, countPromotion, countDemotion, setMarks, dropBlockMarks}
+use Rattle.page_base.specs.declared.Left.{Left}
 use Rattle.page_base.specs.declared.PageWords.{PageWords}
 use Rattle.page_base.specs.Page.{withPageWords}
 use Rattle.block_marks.specs.declared.BlockWords.{BlockWords}
@@ -20,9 +22,13 @@ use Rattle.block_marks.specs.Blocks.{blockOf, withBlockWords, changed}
 abbrev pub afterInsert : Window → ℕ → Bool → Window
 afterInsert v g promoted = addLive (countPromotion (noteNonempty v g) promoted) (g / 64) 1
 
--- k values out of page g
-abbrev pub afterRemove : Window → ℕ → Bool → ℕ → Window
-afterRemove v g demoted k = countDemotion (noteNonempty (subLive v (g / 64) k) g) demoted
+-- k values out of page g, a demotion counted under cause c
+abbrev pub afterRemove : Window → ℕ → Cause → Bool → ℕ → Window
+afterRemove v g c demoted k = countDemotion c (noteNonempty (subLive v (g / 64) k) g) demoted
+
+-- whether a removal left a value
+abbrev pub anyLeft : Left → Bool
+anyLeft left = not (eqb (left .values) 0)
 
 -- k values out of page g, which is retired; "an emptied page loses its mark"
 abbrev pub noteReleased : Window → ℕ → ℕ → Window
@@ -40,9 +46,9 @@ module _ (h : AdaptiveReceiverPacketWindow) (x : BlockWords) (g : ℕ) where
     pub gives : (v : Window) → v .header ≡ h → v .blocks (g / 64) ≡ blockOf x → holdsValue (v .pages g) ≡ true
         → h .len + 1 < 2 ^ 32 → x .live + 1 < 2 ^ 64 → changed v (g / 64) r ≡ afterInsert v g promoted
 
-  pub record Removed (holds demoted : Bool) (k : ℕ) (r : Change) : Type 0 where
-    pub gives : (v : Window) → v .header ≡ h → v .blocks (g / 64) ≡ blockOf x → holdsValue (v .pages g) ≡ holds
-        → changed v (g / 64) r ≡ afterRemove v g demoted k
+  pub record Removed (left : Left) (c : Cause) (k : ℕ) (r : Change) : Type 0 where
+    pub gives : (v : Window) → v .header ≡ h → v .blocks (g / 64) ≡ blockOf x → holdsValue (v .pages g) ≡ anyLeft left
+        → changed v (g / 64) r ≡ afterRemove v g c (left .demoted) k
 
   pub record Released (holds : Bool) (k : ℕ) (r : Change) : Type 0 where
     pub gives : (v : Window) → v .header ≡ h → v .blocks (g / 64) ≡ blockOf x → holdsValue (v .pages g) ≡ holds

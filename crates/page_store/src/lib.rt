@@ -11,7 +11,9 @@ use block_marks::marks::settle_retired;
 use block_marks::marks::unmark_page;
 use block_marks::note_page;
 use block_marks::sub_live;
+use page_base::Left;
 use window::AdaptiveReceiverPacketWindow;
+use window::Cause;
 ghost use mathlib.Core.Path.{_≡_};
 ghost use Prim.Native.Nat.{_-_, _<_};
 ghost use Rattle.model.specs.Steps.{setHeld};
@@ -36,25 +38,25 @@ pub fn inserted(
     add_live(window, block, 1)
 }
 
-// Page `page` lost `count` live values, holds another or not, and became sparse or not.
+// Page `page` lost `count` live values, and this was left of it; a demotion is counted under the cause.
 pub fn removed(
     w: AdaptiveReceiverPacketWindow,
     b: BlockWords,
     page: usize,
-    holds: bool,
-    demoted: bool,
+    left: Left,
+    cause: Cause,
     count: u32,
 ) -> Change
     requires { ⌜ page < 1024 ⌝ }
-    ensures { λ r. ⌜ Removed w b page holds demoted count r ⌝ }
+    ensures { λ r. ⌜ Removed w b page left cause count r ⌝ }
 {
     let fewer = sub_live(w, b, count);
-    let noted = note_page(fewer.window, fewer.block, page, holds);
+    let noted = note_page(fewer.window, fewer.block, page, left.values != 0);
     let window = noted.window;
     let block = noted.block;
-    if demoted {
+    if left.demoted {
         return Change {
-            window: count_demotion(window),
+            window: count_demotion(window, cause),
             block,
         };
     }

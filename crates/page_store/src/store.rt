@@ -4,9 +4,11 @@ use crate::released;
 use crate::removed;
 use block_marks::block_words;
 use block_marks::put_block_words;
+use page_base::Left;
 use page_base::PageWords;
 use page_base::put_page_words;
 use window::AdaptiveReceiverPacketWindow;
+use window::Cause;
 ghost use mathlib.Core.Path.{_≡_};
 ghost use Prim.Native.Nat.{_/_, _<_};
 ghost use Rattle.window.specs.Memory.{pageWords, blockWords, rowIn};
@@ -40,28 +42,22 @@ pub fn store_inserted(
     change.window
 }
 
-// A page that lost `count` live values.
+// A page that lost `count` live values, and what was left of it.
 pub fn store_removed(
     w: AdaptiveReceiverPacketWindow,
     pages: &mut [u64],
     blocks: &mut [u64],
     page: usize,
     words: PageWords,
-    demoted: bool,
+    left: Left,
+    cause: Cause,
     count: u32,
 ) -> AdaptiveReceiverPacketWindow
     requires { ⌜ (page < 1024) × rowIn pageWords page (now pages) × rowIn blockWords (page / 64) (now blocks) ⌝ }
-    ensures { λ r. ⌜ Stores (Removed w (blockWordsAt (now (blocks .entry)) (page / 64)) page (holdsOf words) demoted count) (now (pages .entry)) (now (blocks .entry)) page words r (now (pages .exit)) (now (blocks .exit)) ⌝ }
+    ensures { λ r. ⌜ Stores (Removed w (blockWordsAt (now (blocks .entry)) (page / 64)) page left cause count) (now (pages .entry)) (now (blocks .entry)) page words r (now (pages .exit)) (now (blocks .exit)) ⌝ }
 {
     let block = page / 64;
-    let change = removed(
-        w,
-        block_words(blocks, block),
-        page,
-        holds(words),
-        demoted,
-        count,
-    );
+    let change = removed(w, block_words(blocks, block), page, left, cause, count);
     let kept = change.block;
     put_page_words(pages, page, words);
     put_block_words(blocks, block, kept);

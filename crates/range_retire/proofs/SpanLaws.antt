@@ -12,6 +12,7 @@ use Rattle.words.specs.Word.{isSet, span}
 use Rattle.window.specs.declared.AdaptiveReceiverPacketWindow.{AdaptiveReceiverPacketWindow}
 use Rattle.window.specs.Memory.{Memory, memory, capacity, pageCount, blockCount, pageWords, blockWords}
 use Rattle.window.proofs.MemoryLaws.{capacity-pages, page-count-le}
+use Rattle.window.specs.declared.Cause.the-variants.{Range}
 use Rattle.model.specs.Table.{within}
 use Rattle.model.specs.Window.{Window, decode, isRetired, capacityOf}
 use Rattle.model.specs.Pages.{PageDrained, holdsValue, demotes, afterRemoval}
@@ -39,7 +40,7 @@ slots-same w g P Q h =
     let demoteAt = w .header .«demote_at» in
     ap (λ (d : PageDrained).
     cond (isRetired w g || not (holdsValue (w .pages g))) (returnedBy w [])
-    (returnedBy (countDemotion (putPage (subLive w (g / 64) (length (d .out))) g (afterRemoval demoteAt (d .page))) (demotes demoteAt (d .page))) (d .out)))
+    (returnedBy (countDemotion Range (putPage (subLive w (g / 64) (length (d .out))) g (afterRemoval demoteAt (d .page))) (demotes demoteAt (d .page))) (d .out)))
     (drain-same P Q 64 0 64 (w .pages g) (λ i x y. h i (omega arith)))
 
 -- positions from f up to t, as a span of bits

@@ -12,6 +12,7 @@ use borrow.Author.Tests.{eq-eqb, ne-eqb}
 use Rattle.words.proofs.CaseLaws.{bool}
 use Rattle.words.specs.Word.{isSet}
 use Rattle.window.specs.declared.AdaptiveReceiverPacketWindow.{AdaptiveReceiverPacketWindow}
+use Rattle.window.specs.declared.Cause.the-variants.{Range}
 use Rattle.window.specs.Memory.{Memory, memory, capacity, pageCount, blockCount, pageWords, blockWords}
 use Rattle.window.proofs.MemoryLaws.{capacity-pages, page-count-le}
 use Rattle.window.specs.Refusals.{Fits}
@@ -26,15 +27,17 @@ use Rattle.page_base.proofs.PlaceLaws.{placed}
 use Rattle.page_base.proofs.DecodeLaws.{header-at, page-at}
 use Rattle.page_remove.specs.declared.Settled.{Settled}
 use Rattle.page_remove.specs.declared.drain.Drained.{Drained}
-use Rattle.page_remove.specs.Remove.{settledOf, settlePage}
+use Rattle.page_remove.specs.Remove.{SettledPage, settledOf, settlePage}
 use Rattle.page_remove.specs.Contracts.{Drains, stretch}
+use Rattle.page_remove.proofs.RemoveLaws.{settled-told}
+use Rattle.page_remove.proofs.DrainLaws.{drain-placed}
 use Rattle.block_marks.specs.declared.Change.{Change}
 use Rattle.block_marks.specs.Blocks.{blockWordsAt, blockOf, changed}
 use Rattle.block_marks.proofs.BlockLaws.{block-at}
 use Rattle.block_marks.specs.Marks.{pageRetired}
 use Rattle.block_marks.proofs.MarkLaws.{page-retired-is}
 use Rattle.page_store.specs.Contracts as updates
-use Rattle.page_store.specs.Contracts.{Stores, afterRemove, holds}
+use Rattle.page_store.specs.Contracts.{Stores, afterRemove, anyLeft}
 use Rattle.page_store.proofs.StoreLaws.{stored-pages, stored-blocks, pages-past, blocks-past, decode-stored}
 use Rattle.laws_soundness.specs.Change.{Limits, limitsOf}
 use Rattle.laws_soundness.specs.Retire.{Retiring}
@@ -82,13 +85,13 @@ drains-page n g slots at ss vs pages l d l′ w ps qs e f q t = rw (e, f, q) at 
 module _ (h : AdaptiveReceiverPacketWindow) (ss vs pages blocks l : List ℕ) (g slots at : ℕ) (d : Drained) (s : Settled) (r : AdaptiveReceiverPacketWindow)
     (ss′ vs′ pages′ blocks′ l′ : List ℕ) (fits : Fits h (length ss) (length vs) (length pages) (length blocks)) (below : g < pageCount (h .«window_size»)) (room : at + 64 ≤ length l)
     (taken : Drains (h .n) (wordsAt pages g) (partOf g ss) (partOf g vs) slots at 64 l d l′) (settles : SettlesPage (h .«demote_at») g (d .words) ss vs s ss′ vs′)
-    (stored : Stores (updates.Removed h (blockWordsAt blocks (g / 64)) g (holds (s .words)) (s .demoted) (d .count)) pages blocks g (s .words) r pages′ blocks′) where
+    (stored : Stores (updates.Removed h (blockWordsAt blocks (g / 64)) g (s .left) Range (d .count)) pages blocks g (s .words) r pages′ blocks′) where
   in-lists : PageIn h g (length ss) (length vs) (length pages) (length blocks)
   in-lists = page-in h g (length ss) (length vs) (length pages) (length blocks) fits below
 
   -- how the header and the block's words change
   abbrev Removes : Change → Type 0
-  Removes = updates.Removed h (blockWordsAt blocks (g / 64)) g (holds (s .words)) (s .demoted) (d .count)
+  Removes = updates.Removed h (blockWordsAt blocks (g / 64)) g (s .left) Range (d .count)
 
   abbrev change : Change
   change = record { window = r; block = stored .block }
@@ -98,7 +101,7 @@ module _ (h : AdaptiveReceiverPacketWindow) (ss vs pages blocks l : List ℕ) (g
   unfolding noteNonempty
   stays =
       ap (λ (y : Window). limitsOf (y .header))
-      (stored .changes .gives (window h (λ q. record { kind = s .words .kind; occupied = s .words .occupied; filled = s .words .filled; sequences = λ c. 0; values = λ c. 0 }) (λ b. blockOf (blockWordsAt blocks (g / 64)))) refl refl refl)
+      (stored .changes .gives (window h (λ q. record { kind = 0; occupied = s .left .values; filled = 0; sequences = λ c. 0; values = λ c. 0 }) (λ b. blockOf (blockWordsAt blocks (g / 64)))) refl refl refl)
 
   same-past : SamePast (h .«window_size») (memory ss vs pages blocks) (memory ss′ vs′ pages′ blocks′)
   same-past = record {
@@ -143,11 +146,17 @@ module _ (h : AdaptiveReceiverPacketWindow) (ss vs pages blocks l : List ℕ) (g
     there : withPage v g p .pages g ≡ p
     there = rw (eq-eqb g g refl)
 
-    noted : changed (withPage v g p) (g / 64) change ≡ afterRemove (withPage v g p) g (s .demoted) (d .count)
-    noted =
-        stored .changes .gives (withPage v g p) (header-at h (memory ss vs pages blocks)) (block-at h (memory ss vs pages blocks) (g / 64) (in-lists .block-below)) (ap holdsValue there)
+    -- the page holds a value just if one was left
+    told : holdsValue (withPage v g p .pages g) ≡ anyLeft (s .left)
+    told =
+        let rest = drain-placed (isSet slots) (h .n) 64 0 64 (v .pages g) (omega arith) (subst (Placed (h .n)) (sym (page-at h (memory ss vs pages blocks) g below)) (placed-at h ss vs pages blocks g ok below)) in
+        ap holdsValue there ∙ ap (λ (x : SettledPage). holdsValue (x .page)) settled-is ∙ settled-told (h .n) (out .page) rest (h .«demote_at») ∙ ap (λ (x : SettledPage). anyLeft (x .left)) (sym settled-is)
 
-    take-is : afterRemove (withPage v g (settlePage (h .«demote_at») (out .page) .page)) g (settlePage (h .«demote_at») (out .page) .demoted) (length (out .out)) ≡ takeSlots v g (isSet slots) .after
+    noted : changed (withPage v g p) (g / 64) change ≡ afterRemove (withPage v g p) g Range (s .left .demoted) (d .count)
+    noted =
+        stored .changes .gives (withPage v g p) (header-at h (memory ss vs pages blocks)) (block-at h (memory ss vs pages blocks) (g / 64) (in-lists .block-below)) told
+
+    take-is : afterRemove (withPage v g (settlePage (h .«demote_at») (out .page) .page)) g Range (settlePage (h .«demote_at») (out .page) .left .demoted) (length (out .out)) ≡ takeSlots v g (isSet slots) .after
     unfolding takeSlots decode
     take-is = refl
 
@@ -157,7 +166,7 @@ module _ (h : AdaptiveReceiverPacketWindow) (ss vs pages blocks l : List ℕ) (g
         ∙ decode-stored Removes pages blocks g (s .words) r pages′ blocks′ stored h ss vs (settles .first) (settles .second) (ap (λ (y : Limits). y .size) stays)
         below (in-lists .block-below) (in-lists .words) (fits .long .blocks-long) (in-lists .sequences) (in-lists .values) (settles .full) (settles .filled)
         ∙ noted
-        ∙ (λ i. afterRemove (withPage v g (settled-is i .page)) g (settled-is i .demoted) (count-is i))
+        ∙ (λ i. afterRemove (withPage v g (settled-is i .page)) g Range (settled-is i .left .demoted) (count-is i))
         ∙ take-is
 
     out-is : stretch at (d .count) l′ ≡ takeSlots v g (isSet slots) .out

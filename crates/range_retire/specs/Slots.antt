@@ -2,6 +2,7 @@
 use mathlib.Core.Bool.{Bool}
 use Prim.Native.Nat.{ℕ, _/_}
 use lib.ListN.{length}
+use Rattle.window.specs.declared.Cause.the-variants.{Range}
 use Rattle.model.specs.Window.{Window}
 use Rattle.model.specs.Pages.{drainPage, demotes, afterRemoval}
 use Rattle.model.specs.Steps.{Returned, returnedBy, subLive, putPage, countDemotion}
@@ -12,5 +13,5 @@ takeSlots w g P =
     let d = drainPage 64 0 P 64 (w .pages g) in
     let demoteAt = w .header .«demote_at» in
     returnedBy
-    (countDemotion (putPage (subLive w (g / 64) (length (d .out))) g (afterRemoval demoteAt (d .page))) (demotes demoteAt (d .page)))
+    (countDemotion Range (putPage (subLive w (g / 64) (length (d .out))) g (afterRemoval demoteAt (d .page))) (demotes demoteAt (d .page)))
     (d .out)

@@ -10,6 +10,7 @@ use page_remove::drain::drain;
 use page_remove::settle;
 use page_store::store::store_removed;
 use window::AdaptiveReceiverPacketWindow;
+use window::Cause;
 ghost use Prim.Native.Nat.{_+_, _*_, _≤_, _<_};
 ghost use lib.ListN.{length};
 ghost use Rattle.words.specs.Word.{isSet};
@@ -99,8 +100,18 @@ fn take_slots(
     );
     let count = d.count;
     let s = settle_page(sequences, values, page, d.words, w.demote_at as usize);
-    let left = s.words;
-    let window = store_removed(w, pages, blocks, page, left, s.demoted, count as u32);
+    let words = s.words;
+    let left = s.left;
+    let window = store_removed(
+        w,
+        pages,
+        blocks,
+        page,
+        words,
+        left,
+        Cause::Range,
+        count as u32,
+    );
     Retired {
         window,
         count,

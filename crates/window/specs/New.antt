@@ -44,7 +44,8 @@ fresh size n demoteAt =
       «nonempty_summary» = 0;
       «retired_blocks» = 0;
       promotions = 0;
-      demotions = 0;
+      «single_demotions» = 0;
+      «range_demotions» = 0;
     }
 
 -- "every page and block word" is 0, and nothing else is written

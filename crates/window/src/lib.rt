@@ -37,7 +37,16 @@ pub struct AdaptiveReceiverPacketWindow {
     // Bit b: every page of block b counts as retired.
     pub retired_blocks: u64,
     pub promotions: u64,
-    pub demotions: u64,
+    // Demotions by remove and take_front.
+    pub single_demotions: u64,
+    // Demotions by remove_range.
+    pub range_demotions: u64,
+}
+
+// What a demotion is counted under: the removal of a single value, or that of a range.
+pub enum Cause {
+    Single,
+    Range,
 }
 
 // What `new` answers.
@@ -97,7 +106,8 @@ impl AdaptiveReceiverPacketWindow {
             nonempty_summary: 0,
             retired_blocks: 0,
             promotions: 0,
-            demotions: 0,
+            single_demotions: 0,
+            range_demotions: 0,
         }
     }
 }

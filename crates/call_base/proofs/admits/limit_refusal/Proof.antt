@@ -1,6 +1,6 @@
 -- Each class of arguments is tested as the definition tests it (ArgumentLaws). Assumes nothing.
 use Rattle.model.specs.Steps.{knownBy}
-use Rattle.call_base.proofs.ArgumentLaws.{range-refused, range-taken, number-refused, number-taken, base-refused, base-taken}
+use Rattle.call_base.proofs.ArgumentLaws.{nothing-taken, sequence-taken, range-refused, range-taken, number-refused, number-taken, base-refused, base-taken}
 use borrow.Author.Tests.{not-true, not-false}
 use borrow.Author.Needs.{needs}
 use Rattle.call_base.proofs.admits.limit_refusal.Statement.{statement}
@@ -52,10 +52,12 @@ returns-3 c =
     base-refused (knownBy (s .w)) (s .arguments) _ _ (g .1) (c .before .is-wire-number .ensures) (not-true _ (c .if3 .taken))
 
 returns-4 : tie.Need-returns-4
-returns-4 c = search needs
+returns-4 c = nothing-taken (knownBy (c .before .before .args .w)) (c .before .before .args .arguments) (c .enum-told .given .1)
 
 returns-5 : tie.Need-returns-5
-returns-5 c = search needs
+returns-5 c =
+    let s = c .before .before .before .args in
+    sequence-taken (knownBy (s .w)) (s .arguments) _ (c .before .arguments .given .1)
 
 returns-6 : tie.Need-returns-6
 returns-6 c =

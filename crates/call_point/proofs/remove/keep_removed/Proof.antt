@@ -25,7 +25,7 @@ returns c =
     let t : tie.After-store-removed = c .before .before .before .before .before in
     let v : tie.After-read = t .before .before .before .before in
     let s = v .before .before .before .before .args in
-    found-keeps (s .w) (now (s .pages)) (now (s .blocks)) (s .page) (s .words) (s .demoted) (s .read) (c .reply .result) (v .read .given .0 .0) (t .store-removed .result) _ _ (v .read .given .1) (c .reply .ensures) (t .store-removed .ensures)
+    found-keeps (s .w) (now (s .pages)) (now (s .blocks)) (s .page) (s .words) (s .left) (s .read) (c .reply .result) (v .read .given .0 .0) (t .store-removed .result) _ _ (v .read .given .1) (c .reply .ensures) (t .store-removed .ensures)
 
 enum-told : tie.Need-enum-told
 enum-told c = search needs
@@ -36,7 +36,7 @@ reply-requires-2 c κs = search needs
 returns-2 : tie.Need-returns-2
 returns-2 c =
     let s = c .before .before .before .before .before .args in
-    absent-keeps (s .w) (now (s .pages)) (now (s .blocks)) (s .page) (s .words) (s .demoted) (s .read) (c .reply2 .result) (c .before .enum-told .given .1) (c .reply2 .ensures)
+    absent-keeps (s .w) (now (s .pages)) (now (s .blocks)) (s .page) (s .words) (s .left) (s .read) (c .reply2 .result) (c .before .enum-told .given .1) (c .reply2 .ensures)
 
 pub keep-removed-spec : {M : Type 1} → statement M
 keep-removed-spec =

@@ -51,7 +51,10 @@ remove-in-page-requires : tie.Need-remove-in-page-requires
 remove-in-page-requires c κs = let i = inside (c .before .before .before .before .before .before .before) in (i .page-fits, i .in-sequences, i .in-values, i .cells .1)
 
 keep-removed-requires : tie.Need-keep-removed-requires
-keep-removed-requires c κs = let i = inside (c .before .before .before .before .before .before .before .before .before .before .before .before .before .before .before) in (i .page-fits, i .in-pages, i .in-blocks)
+keep-removed-requires c κs =
+    let x : tie.After-remove-in-page = c .before .before .before .before .before .before .before .before in
+    let i = inside (x .before .before .before .before .before .before .before .before) in
+    (i .page-fits, i .in-pages, i .in-blocks)
 
 same-length-2 : tie.Need-same-length-2
 same-length-2 c = search needs
@@ -68,7 +71,7 @@ same-length-5 c = search needs
 returns-2 : tie.Need-returns-2
 returns-2 c =
     let t : tie.After-keep-removed = c .before .before .before .before in
-    let x : tie.After-remove-in-page = t .before .before .before .before .before .before .before .before in
+    let x : tie.After-remove-in-page = t .before .before .before .before .before .before .before .before .before in
     let w : tie.After-page-words = x .before .before .before in
     let k : tie.After-reachable = w .before .before .before in
     let p : tie.After-position = k .before .before in

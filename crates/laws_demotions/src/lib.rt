@@ -1,0 +1,1 @@
+// Laws only: demotions by cause. See specs/.
