@@ -55,6 +55,15 @@
  * the point passes over what is live after it, and packet_window_set_base to a sequence that is not in base .. point looks from there on.
  * So take values by packet_window_take_front, or set the base on before the values before it are removed.
  *
+ * CHANGES OF KIND. A page that gets more than n values becomes dense (promotions). A removal that leaves a dense page with 1 to demote_at
+ * values makes it sparse again: single_demotions counts those by packet_window_remove (its host form too) and packet_window_take_front,
+ * range_demotions those by packet_window_remove_range. No other call raises them, no refused one, and no page that is emptied counts. The
+ * counts begin at 0 and go on from 2^64 - 1 to 0, so take what came in between as the difference of two readings, unsigned. How to read
+ * them, for the choice of demote_at: a dense page that single removals empty is counted once on its way, so single_demotions that keep up
+ * with promotions tell that pages are packed shortly before they are empty, work that a lower demote_at saves, with 0 all of it;
+ * range_demotions tell that ranges leave pages with few values, which stay sparse until they fill again. A range that goes round into the
+ * page in which it began tests that page twice, and may count a page that it then empties.
+ *
  * VALUES HANDED BACK. The window gives each accepted value back exactly once:
  *     - in answer.first, when packet_window_insert answers PACKET_WINDOW_REPLACED, and when packet_window_exchange,
  *       packet_window_remove or packet_window_take_front answers PACKET_WINDOW_FOUND;
@@ -89,8 +98,8 @@ extern "C" {
 
 /* ---- version */
 
-/* 10000 * major + 100 * minor + patch: 0.5.0. CHANGELOG.md says what each version changed. */
-#define PACKET_WINDOW_VERSION 500u
+/* 10000 * major + 100 * minor + patch: 0.6.0. CHANGELOG.md says what each version changed. */
+#define PACKET_WINDOW_VERSION 600u
 
 /*
  * The version of the library that is linked. Compare it with PACKET_WINDOW_VERSION once, before the first call: with another version the

@@ -14,6 +14,7 @@ ROOT = Path(__file__).resolve().parent.parent
 HEADING = '## What one has to believe'
 # demand 3; request S-14; what is proved of loss lists; what the line program prints for its input, and the contracts of its functions
 STATEMENTS = ['crates/model/specs/Heads.antt', 'crates/laws_visits/specs/TwoVisits.antt', 'crates/model/specs/Reports.antt',
+              'crates/laws_demotions/specs/Demotions.antt',
               'crates/line_program/specs/Program.antt', 'crates/line_program/specs/Contracts.antt']
 USE = re.compile(r'^(?:ghost |pub |unfoldable pub )?use Rattle·(?P<crate>\w+)(?:·specs\.specs|\.specs|·specs)\.(?P<module>[\w.]+)', re.MULTILINE)
 
