@@ -174,12 +174,12 @@ typedef struct packet_window_header {
     uint64_t nonempty_summary;
     /* Bit b: every page of block b counts as retired. */
     uint64_t retired_blocks;
-    /* Pages that became dense; modulo 2^64. */
-    uint64_t promotions;
     /* Pages that became sparse again by packet_window_remove and packet_window_take_front; modulo 2^64. */
     uint64_t single_demotions;
     /* Pages that became sparse again by packet_window_remove_range; modulo 2^64. */
     uint64_t range_demotions;
+    /* Pages that became dense; modulo 2^64. */
+    uint64_t promotions;
 } packet_window_header;
 
 /* All pages that became sparse again, by either cause; modulo 2^64. */
@@ -554,9 +554,9 @@ PACKET_WINDOW_AT(header, base, 24);
 PACKET_WINDOW_AT(header, point, 28);
 PACKET_WINDOW_AT(header, nonempty_summary, 32);
 PACKET_WINDOW_AT(header, retired_blocks, 40);
-PACKET_WINDOW_AT(header, promotions, 48);
-PACKET_WINDOW_AT(header, single_demotions, 56);
-PACKET_WINDOW_AT(header, range_demotions, 64);
+PACKET_WINDOW_AT(header, single_demotions, 48);
+PACKET_WINDOW_AT(header, range_demotions, 56);
+PACKET_WINDOW_AT(header, promotions, 64);
 PACKET_WINDOW_SIZE(header, 72);
 PACKET_WINDOW_AT(answer, code, 0);
 PACKET_WINDOW_AT(answer, first, 4);

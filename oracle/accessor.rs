@@ -21,9 +21,9 @@ pub struct WindowHeader {
     pub point: u32,
     pub nonempty_summary: u64,
     pub retired_blocks: u64,
-    pub promotions: u64,
     pub single_demotions: u64,
     pub range_demotions: u64,
+    pub promotions: u64,
 }
 
 /// One page as the port keeps it. A page that is not there is all zero.
@@ -100,9 +100,9 @@ impl<T, const N: usize> AdaptiveReceiverPacketWindow<T, N> {
             point,
             nonempty_summary: self.nonempty_summary,
             retired_blocks: self.retired_blocks,
-            promotions: self.promotions as u64,
             single_demotions,
             range_demotions,
+            promotions: self.promotions as u64,
         }
     }
 

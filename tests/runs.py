@@ -47,8 +47,8 @@ LETTERS = {
 }
 NUMBERS = {'q': 'pair {} 0 0 0'}  # what a number says that a letter prints; `found` for the others
 # The header's fields in the order in which `oracle --words` prints them (oracle/src/state.rs).
-HEADER = ('window_size n demote_at len retired_held release_cursor base point nonempty_summary retired_blocks promotions '
-          'single_demotions range_demotions').split()
+HEADER = ('window_size n demote_at len retired_held release_cursor base point nonempty_summary retired_blocks '
+          'single_demotions range_demotions promotions').split()
 BLOCK = 3  # words of a block
 
 # What the prover needs for a call, roughly, in thousandths of a second (cost_of): so much, and for a letter that searches so
@@ -565,7 +565,7 @@ def summary(runs, files, theorems, seconds):
 # Calls, answers, and the source's words after the last of them.
 TRUE_CALLS = 'n 64 2 1;i 5 50;i 69 51;i 6 60;i 7 70;l;d 6 7;q 69 69;a 5;g 5'
 TRUE_ANSWERS = 'n . 0 0 0 0;i + 1 0 0 0;i !4 1 0 0 0;i + 2 0 0 0;i + 3 0 1 0;l 3 3 0 1 0 5:50 6:60 7:70;d 2 1 0 1 1 60 70;q 5 1 0 1 1;a . 1 0 1 1;g 50 1 0 1 1'
-TRUE_WORDS = '64 2 1 1 0 0 5 6 1 0 1 0 1|1 0 1|0 1 32 1 0.5.50'
+TRUE_WORDS = '64 2 1 1 0 0 5 6 1 0 0 1 1|1 0 1|0 1 32 1 0.5.50'
 # What is falsified, the text before and after, what of it the prover shows, and which theorems say it.
 FALSE = [
     ('an answer', '(ask (get 5)) (found 50)', '(ask (get 5)) (found 51)', '51', 'window table positions'),

@@ -35,9 +35,9 @@ fn written_header(header: &WindowHeader) -> String {
     let words = [
         header.nonempty_summary,
         header.retired_blocks,
-        header.promotions,
         header.single_demotions,
         header.range_demotions,
+        header.promotions,
     ];
     format!("{} {}", joined(small.iter()), joined(words.iter()))
 }

@@ -214,7 +214,7 @@ impl Window {
 
 const EMPTY: Header = Header {
     window_size: 0, n: 0, demote_at: 0, len: 0, retired_held: 0, release_cursor: 0, base: 0, point: 0,
-    nonempty_summary: 0, retired_blocks: 0, promotions: 0, single_demotions: 0, range_demotions: 0,
+    nonempty_summary: 0, retired_blocks: 0, single_demotions: 0, range_demotions: 0, promotions: 0,
 };
 
 /// Windows with nothing live, with a value in some blocks, with dense pages, with pages and blocks retired.

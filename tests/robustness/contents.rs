@@ -59,7 +59,7 @@ fn fill_header(random: &mut Random, memory: &mut Memory, kind: Kind) {
     // Every field is named, so that a new one is not left out.
     let Header {
         window_size: _, n, demote_at, len, retired_held, release_cursor, base, point,
-        nonempty_summary, retired_blocks, promotions, single_demotions, range_demotions,
+        nonempty_summary, retired_blocks, single_demotions, range_demotions, promotions,
     } = &mut memory.header;
     for count in [len, retired_held, release_cursor, base, point] {
         *count = word(random, kind) as u32;

@@ -24,12 +24,12 @@ pub struct Header {
     pub nonempty_summary: u64,
     /// Bit b: every page of block b counts as retired.
     pub retired_blocks: u64,
-    /// Pages that became dense, modulo 2^64.
-    pub promotions: u64,
     /// Pages that became sparse again by `remove` and `take_front`, modulo 2^64.
     pub single_demotions: u64,
     /// Pages that became sparse again by `remove_range`, modulo 2^64.
     pub range_demotions: u64,
+    /// Pages that became dense, modulo 2^64.
+    pub promotions: u64,
 }
 
 /// A code, then up to four numbers.

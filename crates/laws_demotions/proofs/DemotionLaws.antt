@@ -211,14 +211,15 @@ sum-single a b k = omega arith
 sum-range : (a b k : ℕ) → (a + (b + k) % 2 ^ 64) % 2 ^ 64 ≡ ((a + b) % 2 ^ 64 + k) % 2 ^ 64
 sum-range a b k = omega arith
 
-pub sum-counts : (c : Cause) (w : Window) (happened : Bool) → demotionsOf (countDemotion c w happened .header) ≡ (demotionsOf (w .header) + one happened) % 2 ^ 64
+pub sum-counts : SumCountsAll
+unfolding SumCountsAll
 sum-counts Single w happened = sum-single (w .header .«single_demotions») (w .header .«range_demotions») (one happened)
 sum-counts Range w happened = sum-range (w .header .«single_demotions») (w .header .«range_demotions») (one happened)
 
 -- ---- request S-5
 
 pub s-5 : S-5
-unfolding CallsCountByCause RefusedCallsCountNothing SumCountsAll
+unfolding CallsCountByCause RefusedCallsCountNothing
 s-5 = record {
   calls = λ u v e ok room t. counts-by-cause u v e t ok room;
   refused-calls = λ u v e n t. refused-stays u v e t n;

@@ -19,18 +19,15 @@ use Rattle.laws_demotions.specs.Demotions.{becameSparse, sparser}
 
 -- ---- one page
 
-not-both : (k : ℕ) → eqb k 2 && eqb k 1 ≡ false
-not-both k = elim (ℕ-discrete k 2) [ yes e ↦ rw (eq-eqb k 2 e, ne-eqb k 1 (λ z. omega arith)) | no e ↦ rw (ne-eqb k 2 e) ]
-
-same-kind : (p : Page) → becameSparse p p ≡ false
-same-kind p = not-both (p .kind)
+same-kind : (p q : Page) → q .kind ≡ p .kind → becameSparse p q ≡ false
+same-kind p q same = elim (ℕ-discrete (p .kind) 2) [ yes e ↦ rw (same, e) | no e ↦ rw (ne-eqb (p .kind) 2 e) ]
 
 -- of a page q that is as dense as p was, what a removal leaves
 module _ (p q : Page) (same : q .kind ≡ p .kind) (d : ℕ) where
   emptied-or-same : becameSparse p (unlessEmptied q) ≡ false
   emptied-or-same =
       bool (holdsValue q)
-      (λ h. rw (h, same) (not-both (p .kind)))
+      (λ h. rw h (same-kind p q same))
       (λ h. rw h (bool (eqb (p .kind) 2) (λ k. rw k) (λ k. rw k)))
 
   pub removal-sparse : becameSparse p (afterRemoval d q) ≡ demotes d q
@@ -49,7 +46,7 @@ one-le false = omega arith
 pub none-sparser : (w v : Window) → v .pages ≡ w .pages → sparser w v ≡ 0
 none-sparser w v e =
     ap (λ (pages : ℕ → Page). sum (pagesOf w) (λ (g : ℕ). one (becameSparse (w .pages g) (pages g)))) e
-    ∙ sum-none (pagesOf w) (λ (g : ℕ). one (becameSparse (w .pages g) (w .pages g))) (λ g l. ap one (same-kind (w .pages g)))
+    ∙ sum-none (pagesOf w) (λ (g : ℕ). one (becameSparse (w .pages g) (w .pages g))) (λ g l. ap one (same-kind (w .pages g) (w .pages g) refl))
 
 -- one page alone may be another
 pub one-sparser : (w v : Window) (p : ℕ) → p < pagesOf w → ((g : ℕ) → (g ≡ p → ⊥) → v .pages g ≡ w .pages g) → sparser w v ≡ one (becameSparse (w .pages p) (v .pages p))
@@ -57,7 +54,7 @@ one-sparser w v p l others =
     let f : ℕ → ℕ = λ g. one (becameSparse (w .pages g) (v .pages g)) in
     let z : ℕ → ℕ = λ g. 0 in
     let none = sum-none (pagesOf w) z (λ g m. refl) in
-    let but = sum-but (pagesOf w) f z p l (λ g m e. ap (λ (q : Page). one (becameSparse (w .pages g) q)) (others g e) ∙ ap one (same-kind (w .pages g))) in
+    let but = sum-but (pagesOf w) f z p l (λ g m e. ap (λ (q : Page). one (becameSparse (w .pages g) q)) (others g e) ∙ ap one (same-kind (w .pages g) (w .pages g) refl)) in
     omega (arith, none, but)
 
 -- ---- a remove

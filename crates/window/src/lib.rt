@@ -36,11 +36,11 @@ pub struct AdaptiveReceiverPacketWindow {
     pub nonempty_summary: u64,
     // Bit b: every page of block b counts as retired.
     pub retired_blocks: u64,
-    pub promotions: u64,
     // Demotions by remove and take_front.
     pub single_demotions: u64,
     // Demotions by remove_range.
     pub range_demotions: u64,
+    pub promotions: u64,
 }
 
 // What a demotion is counted under: the removal of a single value, or that of a range.
@@ -105,9 +105,9 @@ impl AdaptiveReceiverPacketWindow {
             point: 0,
             nonempty_summary: 0,
             retired_blocks: 0,
-            promotions: 0,
             single_demotions: 0,
             range_demotions: 0,
+            promotions: 0,
         }
     }
 }
