@@ -24,7 +24,8 @@ use Rattle.model.specs.Heads.{Stepped}
 use Rattle.page_base.proofs.DecodeLaws.{header-at}
 use Rattle.laws_soundness.specs.Change.{Kept, SameBut}
 use Rattle.laws_soundness.proofs.KeptLaws.{kept-either, release-kept, release-pages-kept, all-kept, insert-kept, exchange-kept, range-kept, remove-kept}
-use Rattle.laws_demotions.specs.Demotions.{countOf, countsUnder, becameSparse, sparser, ByCause, CallsCountByCause, RefusedCallsCountNothing, SumCountsAll, S-5}
+use Rattle.laws_demotions.specs.Demotions.{countOf, countsUnder, sparser, RangeCounts, ByCause, CallsCountByCause, RefusedCallsCountNothing, SumCountsAll, S-5}
+use Rattle.laws_demotions.proofs.RangeLaws.{Counted, weaken, still, step-counted}
 use Rattle.laws_demotions.proofs.SparseLaws.{d, rest, none-sparser, found-sparser, absent-same, remove-once}
 
 -- ---- the count that is not of the call's cause
@@ -139,6 +140,25 @@ module _ (w : Window) (room : w .header .«single_demotions» < 2 ^ 64) where
   does-rises take-front e = front-rises
   does-rises (ask q) e = absurd (true≢false (sym e))
 
+-- ---- the second count, of remove_range
+
+module _ (w : Window) where
+  does-ranges : (c : Call) → countsUnder Range c ≡ true → Counted 2 w (windowDoes w c .after)
+  unfolding windowDoes
+  does-ranges (insert s v listed) e = absurd (true≢false (sym e))
+  does-ranges (exchange s v) e = absurd (true≢false (sym e))
+  does-ranges (remove s) e = absurd (true≢false (sym e))
+  does-ranges (remove-range a b listed) e = step-counted w (position (sizeOf w) a) (rangeCount a b)
+  does-ranges (clear listed) e = absurd (true≢false (sym e))
+  does-ranges (clear-bounded n listed) e = absurd (true≢false (sym e))
+  does-ranges (release-retired b listed) e = absurd (true≢false (sym e))
+  does-ranges (set-base s) e = absurd (true≢false (sym e))
+  does-ranges take-front e = absurd (true≢false (sym e))
+  does-ranges (ask q) e = absurd (true≢false (sym e))
+
+  pointed-ranges : (v : Window) → Counted 2 w v → Counted 2 w (repoint v)
+  pointed-ranges v t = record { rise = t .rise; few = t .few; range = t .range; room = t .room; sparse = t .sparse; size = t .size; below = t .below }
+
 -- ---- the whole step
 
 pub step-stays : (w : Window) (c : Call) (k : Cause) → countsUnder k c ≡ false → Stays k w (windowStep w c .after)
@@ -154,6 +174,13 @@ step-rises w room c e = unless (argumentRefusal (knownBy (w .header)) c)
     unless : (n : ℕ) → Rises w room (unlessRefused n w (windowActs w c) .after)
     unless zero = does-rises w room c e
     unless (suc n) = none-rises w room w refl refl
+
+pub step-ranges : (w : Window) (c : Call) → countsUnder Range c ≡ true → Counted 2 w (windowStep w c .after)
+step-ranges w c e = unless (argumentRefusal (knownBy (w .header)) c)
+  where
+    unless : (n : ℕ) → Counted 2 w (unlessRefused n w (windowActs w c) .after)
+    unless zero = pointed-ranges w (windowDoes w c .after) (does-ranges w c e)
+    unless (suc n) = weaken 0 2 w w (omega arith) (still w)
 
 -- ---- states
 
@@ -171,9 +198,9 @@ module _ (u v : State) (e : Entry) (t : Stepped u e v) where
   pub refused-stays : (refusal u (e .call) ≡ 0 → ⊥) → (k : Cause) → countOf k (v .header) ≡ countOf k (u .header)
   refused-stays n k = ap (λ (x : State). countOf k (x .header)) (kept n)
 
-  module _ (ok : SoundWithPoint (windowOf u)) (room : u .header .«single_demotions» < 2 ^ 64) where
+  module _ (ok : SoundWithPoint (windowOf u)) (room : (k : Cause) → countOf k (u .header) < 2 ^ 64) where
     room-of : windowOf u .header .«single_demotions» < 2 ^ 64
-    room-of = subst (λ (h : AdaptiveReceiverPacketWindow). h .«single_demotions» < 2 ^ 64) (sym (header-of u)) room
+    room-of = subst (λ (h : AdaptiveReceiverPacketWindow). h .«single_demotions» < 2 ^ 64) (sym (header-of u)) (room Single)
 
     stepped : refusal u (e .call) ≡ 0 → windowOf v ≡ windowStep (windowOf u) (e .call) .after
     stepped z = ap windowOf (sym (t .state)) ∙ t .meets .sound z ok .window
@@ -194,12 +221,33 @@ module _ (u v : State) (e : Entry) (t : Stepped u e v) where
           | no z ↦ refused-stays z k
         ]
 
+    ranged : countsUnder Range (e .call) ≡ true → Counted 2 (windowOf u) (windowOf v)
+    ranged q =
+        elim (ℕ-discrete (refusal u (e .call)) 0) [
+          | yes z ↦ subst (Counted 2 (windowOf u)) (sym (stepped z)) (step-ranges (windowOf u) (e .call) q)
+          | no z ↦ subst (λ (x : State). Counted 2 (windowOf u) (windowOf x)) (sym (kept z)) (weaken 0 2 (windowOf u) (windowOf u) (omega arith) (still (windowOf u)))
+        ]
+
+    range-counts : countsUnder Range (e .call) ≡ true → RangeCounts u v
+    range-counts q =
+        let t = ranged q in
+        let a = ap (λ (h : AdaptiveReceiverPacketWindow). h .«range_demotions») (header-of u) in
+        let b = ap (λ (h : AdaptiveReceiverPacketWindow). h .«range_demotions») (header-of v) in
+        let l : windowOf u .header .«range_demotions» < 2 ^ 64 = omega (arith, a, room Range) in
+        record {
+          rise = t .rise;
+          counted = sym b ∙ sym (mod-eq-of-lt (t .room l)) ∙ t .range ∙ ap (λ (x : ℕ). (x + t .rise) % 2 ^ 64) a;
+          all = t .sparse;
+          few = t .few;
+        }
+
     pub counts-by-cause : ByCause (e .call) u v
     counts-by-cause = record {
       rises = λ q.
           ap (λ (h : AdaptiveReceiverPacketWindow). h .«single_demotions») (sym (header-of v)) ∙ rises q .0
           ∙ ap (λ (h : AdaptiveReceiverPacketWindow). (h .«single_demotions» + sparser (windowOf u) (windowOf v)) % 2 ^ 64) (header-of u);
       once = λ q. rises q .1;
+      ranges = range-counts;
       stays = stays;
     }
 

@@ -12,15 +12,18 @@ use Rattle.window.proofs.MemoryLaws.{position-lt, capacity-pages}
 use Rattle.model.specs.Table.{sum, finds}
 use Rattle.model.specs.Demand3.{one}
 use Rattle.model.specs.Window.{Page, Window, sizeOf, pagesOf, cellOf}
-use Rattle.model.specs.Pages.{valuesIn, holdsValue, takeCell, packed, unlessEmptied, demotes, afterRemoval}
+use Rattle.model.specs.Pages.{words, valuesIn, holdsValue, takeCell, packed, unlessEmptied, demotes, afterRemoval}
 use Rattle.model.specs.Steps.{noteNonempty, pageOf, liveHere, removeStep}
 use Rattle.laws_soundness.proofs.SumLaws.{sum-none, sum-but}
 use Rattle.laws_demotions.specs.Demotions.{becameSparse, sparser}
 
 -- ---- one page
 
-same-kind : (p q : Page) → q .kind ≡ p .kind → becameSparse p q ≡ false
+pub same-kind : (p q : Page) → q .kind ≡ p .kind → becameSparse p q ≡ false
 same-kind p q same = elim (ℕ-discrete (p .kind) 2) [ yes e ↦ rw (same, e) | no e ↦ rw (ne-eqb (p .kind) 2 e) ]
+
+pub emptied-sparse : (p q : Page) → q .kind ≡ 0 → becameSparse p q ≡ false
+emptied-sparse p q z = bool (eqb (p .kind) 2) (λ k. rw (k, z)) (λ k. rw k)
 
 -- of a page q that is as dense as p was, what a removal leaves
 module _ (p q : Page) (same : q .kind ≡ p .kind) (d : ℕ) where
@@ -28,7 +31,7 @@ module _ (p q : Page) (same : q .kind ≡ p .kind) (d : ℕ) where
   emptied-or-same =
       bool (holdsValue q)
       (λ h. rw h (same-kind p q same))
-      (λ h. rw h (bool (eqb (p .kind) 2) (λ k. rw k) (λ k. rw k)))
+      (λ h. rw h (emptied-sparse p (words 0 0 0 q) refl))
 
   pub removal-sparse : becameSparse p (afterRemoval d q) ≡ demotes d q
   unfolding packed
@@ -37,7 +40,7 @@ module _ (p q : Page) (same : q .kind ≡ p .kind) (d : ℕ) where
       (λ e. rw e (rw (sym (ap (λ (k : ℕ). eqb k 2) same) ∙ both (eqb (q .kind) 2) _ e .0)))
       (λ e. rw e emptied-or-same)
 
-one-le : (b : Bool) → one b ≤ 1
+pub one-le : (b : Bool) → one b ≤ 1
 one-le true = omega arith
 one-le false = omega arith
 

@@ -42,18 +42,28 @@ becameSparse p q = eqb (p .kind) 2 && eqb (q .kind) 1
 abbrev pub sparser : Window → Window → ℕ
 sparser w v = sum (pagesOf w) (λ (g : ℕ). one (becameSparse (w .pages g) (v .pages g)))
 
+-- what a range that leaves v of u makes of the second count: it rises for each page that was dense and is sparse after it, and by two at
+-- the most. It may rise by one more than there are such pages: a range that goes round into the page in which it began may make that
+-- page sparse and then empty it.
+pub record RangeCounts (u v : State) : Type 0 where
+  pub rise : ℕ
+  pub counted : v .header .«range_demotions» ≡ (u .header .«range_demotions» + rise) % 2 ^ 64
+  pub all : sparser (windowOf u) (windowOf v) ≤ rise
+  pub few : rise ≤ 2
+
 -- call c leaves v of u
 pub record ByCause (c : Call) (u v : State) : Type 0 where
   -- remove and take_front raise the first count by one just if a page that was dense is sparse after it
   pub rises : countsUnder Single c ≡ true → v .header .«single_demotions» ≡ (u .header .«single_demotions» + sparser (windowOf u) (windowOf v)) % 2 ^ 64
   pub once : countsUnder Single c ≡ true → sparser (windowOf u) (windowOf v) ≤ 1
+  pub ranges : countsUnder Range c ≡ true → RangeCounts u v
   -- a call leaves the count that is not of its cause: all but remove, take_front and remove_range leave both
   pub stays : (k : Cause) → countsUnder k c ≡ false → countOf k (v .header) ≡ countOf k (u .header)
 
--- every call in a sound state; a count is a u64
+-- every call in a sound state; both counts are u64
 unfoldable pub CallsCountByCause : Type 0
 CallsCountByCause =
-    (u v : State) (e : Entry) → SoundWithPoint (windowOf u) → u .header .«single_demotions» < 2 ^ 64 → Stepped u e v → ByCause (e .call) u v
+    (u v : State) (e : Entry) → SoundWithPoint (windowOf u) → ((k : Cause) → countOf k (u .header) < 2 ^ 64) → Stepped u e v → ByCause (e .call) u v
 
 -- a call that is refused for header, lists or arguments leaves both, on every state
 unfoldable pub RefusedCallsCountNothing : Type 0
