@@ -1,7 +1,7 @@
 -- The two counts of demotions after each call: of windows, then of states between which a call met its contract. Assumes nothing.
 use mathlib.Core.Path.{_≡_, refl, sym, ap, subst, _∙_}
-use mathlib.Core.Bool.{Bool, true, false, cond, true≢false}
-use mathlib.Core.Option.{Option, none, some}
+use mathlib.Core.Bool.{true, false, cond, true≢false}
+use mathlib.Core.Option.{none, some}
 use Prim.Native.Nat.{ℕ, zero, suc, _+_, _/_, _%_, _^_, _≤_, _<_}
 use native.Mathlib.Omega.{arith}
 use native.Mathlib.Nat.{mod-eq-of-lt}
@@ -15,9 +15,9 @@ use Rattle.window.specs.Memory.{position}
 use Rattle.model.specs.Calls.{Call, insert, exchange, remove, remove-range, clear, clear-bounded, release-retired, set-base, take-front, ask}
 use Rattle.model.specs.Table.{sum, finds, rangeCount, argumentRefusal}
 use Rattle.model.specs.Demand3.{one, Entry}
-use Rattle.model.specs.Window.{Page, Window, sizeOf, pagesOf}
+use Rattle.model.specs.Window.{Window, sizeOf, pagesOf}
 use Rattle.model.specs.Pages.{demotes}
-use Rattle.model.specs.Steps.{withHeader, setCursor, noteNonempty, countDemotion, demotionsOf, release, retireRange, retireAll, Effect, unlessRefused, liveHere, insertStep, exchangeStep, removeStep, rangeStep, clearStep, clearBoundedStep, releaseStep, frontStep, knownBy, repoint, windowDoes, windowActs, windowStep}
+use Rattle.model.specs.Steps.{withHeader, setCursor, noteNonempty, retireRange, retireAll, unlessRefused, liveHere, insertStep, exchangeStep, removeStep, rangeStep, clearStep, clearBoundedStep, releaseStep, frontStep, knownBy, repoint, windowDoes, windowActs, windowStep}
 use Rattle.model.specs.Sound.{SoundWithPoint}
 use Rattle.model.specs.Contract.{State, windowOf, refusal}
 use Rattle.model.specs.Heads.{Stepped}

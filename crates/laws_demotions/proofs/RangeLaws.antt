@@ -1,8 +1,7 @@
 -- What remove_range makes of the second count: it counts every page that it made sparse, and rises by two at the most. Assumes nothing.
 use mathlib.Core.Path.{_≡_, refl, sym, ap, _∙_}
-use mathlib.Core.Bool.{Bool, true, false, cond, not, _&&_, _||_}
+use mathlib.Core.Bool.{Bool, cond, not, _&&_, _||_}
 use mathlib.Core.Option.{none}
-use mathlib.Core.List.{[], _++_}
 use mathlib.Core.Logic.{_⊎_, ⊎-elim, inl, inr}
 use Prim.Native.Nat.{ℕ, zero, suc, _+_, _-_, _*_, _/_, _%_, _^_, _≤_, _<_}
 use native.Mathlib.Omega.{arith}
@@ -12,7 +11,7 @@ use lib.Dec.{eqb, leb, ltb}
 use lib.ListN.{length}
 use borrow.Author.Tests.{eq-eqb, ne-eqb, eqb-true}
 use Rattle.words.proofs.CaseLaws.{bool, both}
-use Rattle.words.specs.Word.{isSet, clearBit}
+use Rattle.words.specs.Word.{isSet}
 use Rattle.window.specs.declared.Cause.the-variants.{Range}
 use Rattle.window.specs.Memory.{pageCount}
 use Rattle.window.proofs.MemoryLaws.{capacity-pages}
@@ -20,13 +19,14 @@ use Rattle.model.specs.Table.{sum}
 use Rattle.model.specs.Demand3.{one}
 use Rattle.model.specs.Window.{Page, Window, sizeOf, capacityOf, pagesOf, blocksOf, cellOf, isRetired, upd}
 use Rattle.model.specs.Pages.{holdsValue, takeCell, packed, unlessEmptied, demotes, afterRemoval, drainPage}
-use Rattle.model.specs.Steps.{withHeader, withPage, setHeld, setCursor, setMarks, noteNonempty, subLive, countDemotion, dropBlockMarks, splitBlock, allPositions, Returned, returnedBy, releasePage, nextRetired, moveCursor, releaseUnits, release, removeSlots, retireInBlock, retireBlock, coversBlock, retireBlocks, retirePages, retireStretch, retireRange, rangeStep}
+use Rattle.model.specs.Steps.{withHeader, withPage, setCursor, noteNonempty, subLive, countDemotion, dropBlockMarks, splitBlock, allPositions, releasePage, nextRetired, moveCursor, releaseUnits, release, removeSlots, retireInBlock, retireBlock, coversBlock, retireBlocks, retirePages, retireStretch, retireRange, rangeStep}
 use Rattle.laws_soundness.specs.Change.{Kept, SameBut}
 use Rattle.laws_soundness.specs.Retire.{retireNext, insidePage, firstPage, lastPage}
+use Rattle.laws_soundness.proofs.PageLaws.{one-lt}
 use Rattle.laws_soundness.proofs.SumLaws.{sum-zero, sum-suc, sum-add, sum-none, sum-but}
 use Rattle.laws_soundness.proofs.KeptLaws.{drop-kept, next-kept, release-page-kept}
 use Rattle.laws_demotions.specs.Demotions.{becameSparse, sparser}
-use Rattle.laws_demotions.proofs.SparseLaws.{same-kind, emptied-sparse, removal-sparse, one-le}
+use Rattle.laws_demotions.proofs.SparseLaws.{same-kind, emptied-sparse, removal-sparse}
 
 -- ---- the kind of a page that is emptied, drained, or settled after a removal
 
@@ -63,11 +63,11 @@ page-twice p q r l m =
     let a = eqb-true (p .kind) 2 (t .0) in
     let b = eqb-true (r .kind) 1 (t .1) in
     elim (ℕ-discrete (q .kind) 2) [
-      | yes z ↦ let s : one (becameSparse q r) ≡ 1 = rw (eq-eqb (q .kind) 2 z, t .1) in omega (arith, s, one-le (becameSparse p r))
+      | yes z ↦ let s : one (becameSparse q r) ≡ 1 = rw (eq-eqb (q .kind) 2 z, t .1) in omega (arith, s, one-lt (becameSparse p r))
       | no z ↦
           let k : q .kind ≡ 1 = omega arith in
           let s : one (becameSparse p q) ≡ 1 = rw (t .0, eq-eqb (q .kind) 1 k) in
-          omega (arith, s, one-le (becameSparse p r))
+          omega (arith, s, one-lt (becameSparse p r))
     ])
     (λ e. let s = ap one e in omega (arith, s))
 
@@ -221,7 +221,7 @@ put-counted w g k q b l s =
     let others : (h : ℕ) → (h ≡ g → ⊥) → f h ≡ 0 = λ h e. rw (ne-eqb h g e) (ap one (same-kind (w .pages h) (w .pages h) refl)) in
     record {
       rise = one b;
-      few = one-le b;
+      few = omega (arith, one-lt b);
       range = omega arith;
       room = λ m. mod-lt (w .header .«range_demotions» + one b) {m = 2 ^ 64} (omega arith);
       sparse = elim (decLt g (pagesOf w)) [

@@ -1,19 +1,19 @@
 -- Which pages a removal of one value makes sparse: that of its sequence, just if it is demoted. Assumes nothing.
 use mathlib.Core.Path.{_≡_, refl, sym, ap, _∙_}
-use mathlib.Core.Bool.{Bool, true, false, cond, not, _&&_}
-use Prim.Native.Nat.{ℕ, _+_, _/_, _%_, _≤_, _<_}
+use mathlib.Core.Bool.{true, false, _&&_}
+use Prim.Native.Nat.{ℕ, _%_, _≤_, _<_}
 use native.Mathlib.Omega.{arith}
 use native.Mathlib.Decide.{ℕ-discrete}
-use lib.Dec.{eqb, leb}
-use borrow.Author.Tests.{eq-eqb, ne-eqb, eqb-true}
+use lib.Dec.{eqb}
+use borrow.Author.Tests.{eq-eqb, ne-eqb}
 use Rattle.words.proofs.CaseLaws.{bool, both}
-use Rattle.window.specs.Memory.{capacity, pageCount, position}
 use Rattle.window.proofs.MemoryLaws.{position-lt, capacity-pages}
 use Rattle.model.specs.Table.{sum, finds}
 use Rattle.model.specs.Demand3.{one}
 use Rattle.model.specs.Window.{Page, Window, sizeOf, pagesOf, cellOf}
-use Rattle.model.specs.Pages.{words, valuesIn, holdsValue, takeCell, packed, unlessEmptied, demotes, afterRemoval}
+use Rattle.model.specs.Pages.{words, holdsValue, takeCell, packed, unlessEmptied, demotes, afterRemoval}
 use Rattle.model.specs.Steps.{noteNonempty, pageOf, liveHere, removeStep}
+use Rattle.laws_soundness.proofs.PageLaws.{one-lt}
 use Rattle.laws_soundness.proofs.SumLaws.{sum-none, sum-but}
 use Rattle.laws_demotions.specs.Demotions.{becameSparse, sparser}
 
@@ -39,10 +39,6 @@ module _ (p q : Page) (same : q .kind ≡ p .kind) (d : ℕ) where
       bool (demotes d q)
       (λ e. rw e (rw (sym (ap (λ (k : ℕ). eqb k 2) same) ∙ both (eqb (q .kind) 2) _ e .0)))
       (λ e. rw e emptied-or-same)
-
-pub one-le : (b : Bool) → one b ≤ 1
-one-le true = omega arith
-one-le false = omega arith
 
 -- ---- all pages of a window
 
@@ -97,5 +93,5 @@ module _ (w : Window) (s : ℕ) where
   pub remove-once : sparser w (removeStep w s .after) ≤ 1
   remove-once =
       bool (finds s (liveHere w s))
-      (λ t. omega (arith, found-sparser t, one-le (demotes d rest)))
+      (λ t. omega (arith, found-sparser t, one-lt (demotes d rest)))
       (λ t. omega (arith, none-sparser w (removeStep w s .after) (ap (λ (v : Window). v .pages) (absent-same t))))
