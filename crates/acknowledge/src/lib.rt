@@ -1,5 +1,7 @@
 // The acknowledge point: the first sequence from the base that is not live, and how each call keeps it current. run.rt has the live
 // sequences of one page.
+#![tactic(auto)]
+
 pub mod run;
 
 ghost use Rattle.std.specs.Prelude.{◌≡◌, ◌≤◌, true};

@@ -1,5 +1,7 @@
 // The words of a block of 64 pages, and the bookkeeping in them and in the header. A caller reads a block's words, has them and the
 // header changed by value, and writes them back.
+#![tactic(auto)]
+
 pub mod marks;
 
 ghost use Rattle.std.specs.Prelude.{◌≡◌, ◌<◌, true};

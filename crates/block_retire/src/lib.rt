@@ -1,5 +1,7 @@
 // Whole pages and blocks retired by marks: their values are live no longer, and stay where they are until they are released.
 // run.rt has a run of whole pages.
+#![tactic(auto)]
+
 pub mod run;
 
 ghost use Rattle.std.specs.Prelude.{◌≡◌, ℕ, ◌+◌, ◌*◌, ◌%◌, ◌^◌, ◌<◌, ◌≤◌, length};

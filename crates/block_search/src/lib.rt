@@ -1,4 +1,6 @@
 // The first page that holds a value, that is live or that is retired, by the masks: one step for each block that the summary names.
+#![tactic(auto)]
+
 pub mod walk;
 
 ghost use Rattle.std.specs.Prelude.{◌≡◌, ◌+◌, ◌*◌, ◌/◌, ◌-◌, ◌≤◌, ◌<◌, length};

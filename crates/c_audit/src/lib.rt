@@ -1,6 +1,8 @@
 // stranger, check, set_base and take_front in C's calling convention, as the calls of c_calls. They are compiled apart, so that get,
 // which stranger uses, the removal that take_front begins with, and the advance of the point keep their one caller there.
-ghost use Rattle.model.specs.Calls.{stranger as strangerOf, check as checkOf, set_base, take_front, ask};
+#![tactic(auto)]
+
+ghost use Rattle.model.specs.Calls.{stranger as stranger_of, check as check_of, set_base, take_front, ask};
 ghost use Rattle.c_calls.specs.Numbers.{NumbersMeetBy};
 
 use c_calls::{NumberedStep, in_numbers};
@@ -20,7 +22,7 @@ pub extern "C" fn packet_window_stranger(
     first: u32,
     last: u32,
 ) -> NumberedStep
-    ensures { NumbersMeetBy (ask (strangerOf first last)) w sequences values pages blocks result }
+    ensures { NumbersMeetBy (ask (stranger_of first last)) w sequences values pages blocks result }
 {
     in_numbers(stranger(w, sequences, values, pages, blocks, first, last))
 }
@@ -33,7 +35,7 @@ pub extern "C" fn packet_window_check(
     pages: &[u64],
     blocks: &[u64],
 ) -> NumberedStep
-    ensures { NumbersMeetBy (ask checkOf) w sequences values pages blocks result }
+    ensures { NumbersMeetBy (ask check_of) w sequences values pages blocks result }
 {
     in_numbers(check(w, sequences, values, pages, blocks))
 }

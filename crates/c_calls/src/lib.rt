@@ -1,13 +1,15 @@
 // The calls in C's calling convention: header and answers by value, a list as a pointer and its length. `./library` makes
 // the library. retire.rt has the calls that remove a range, clear and release.
+#![tactic(auto)]
+
 pub mod retire;
 pub mod version;
 
 ghost use Rattle.std.specs.Prelude.{◌≡◌};
-ghost use Rattle.window.specs.New.{fresh, answer_of as newAnswerOf};
-ghost use Rattle.model.specs.Calls.{get as getOf, successor_after, first_from, iter as iterOf, insert as insertOf, exchange as exchangeOf, remove as removeOf, ask};
+ghost use Rattle.window.specs.New.{fresh, answer_of as new_answer_of};
+ghost use Rattle.model.specs.Calls.{get as get_of, successor_after, first_from, iter as iter_of, insert as insert_of, exchange as exchange_of, remove as remove_of, ask};
 ghost use Rattle.call_base.specs.Answers.{answer_of};
-ghost use Rattle.c_calls.specs.Numbers.{numbered as numberedOf, numbers_of, SameStep, numbers_of_new, NumbersMeetBy, NumbersMeetInto, CreatesBy};
+ghost use Rattle.c_calls.specs.Numbers.{numbered as numbered_of, numbers_of, SameStep, numbers_of_new, NumbersMeetBy, NumbersMeetInto, CreatesBy};
 
 use call_point::exchange::exchange;
 use call_point::insert::insert;
@@ -39,7 +41,7 @@ pub struct NumberedStep {
 }
 
 fn numbered(code: u32, first: u32, second: u32, third: u32, fourth: u32) -> NumberedAnswer
-    ensures { result ≡ numberedOf code first second third fourth }
+    ensures { result ≡ numbered_of code first second third fourth }
 {
     NumberedAnswer {
         code,
@@ -102,7 +104,7 @@ fn no_window() -> AdaptiveReceiverPacketWindow
 
 // What new gives in numbers; a refusal comes with a header of zeros, with which every call is refused 6.
 fn created(made: Created) -> NumberedStep
-    ensures { result ≡ numbers_of_new (newAnswerOf made) }
+    ensures { result ≡ numbers_of_new (new_answer_of made) }
 {
     match made {
         Created::New(window) => numbered_step(window, numbered(0, 0, 0, 0, 0)),
@@ -145,7 +147,7 @@ pub extern "C" fn packet_window_get(
     blocks: &[u64],
     sequence: u32,
 ) -> NumberedStep
-    ensures { NumbersMeetBy (ask (getOf sequence)) w sequences values pages blocks result }
+    ensures { NumbersMeetBy (ask (get_of sequence)) w sequences values pages blocks result }
 {
     in_numbers(get(w, sequences, values, pages, blocks, sequence))
 }
@@ -187,7 +189,7 @@ pub extern "C" fn packet_window_iter(
     blocks: &[u64],
     cell: u32,
 ) -> NumberedStep
-    ensures { NumbersMeetBy (ask (iterOf cell)) w sequences values pages blocks result }
+    ensures { NumbersMeetBy (ask (iter_of cell)) w sequences values pages blocks result }
 {
     in_numbers(iter(w, sequences, values, pages, blocks, cell))
 }
@@ -202,7 +204,7 @@ pub extern "C" fn packet_window_exchange(
     sequence: u32,
     value: u32,
 ) -> NumberedStep
-    ensures { NumbersMeetBy (exchangeOf sequence value) w sequences values pages blocks result }
+    ensures { NumbersMeetBy (exchange_of sequence value) w sequences values pages blocks result }
 {
     in_numbers(exchange(w, sequences, values, pages, blocks, sequence, value))
 }
@@ -216,7 +218,7 @@ pub extern "C" fn packet_window_remove(
     blocks: &mut [u64],
     sequence: u32,
 ) -> NumberedStep
-    ensures { NumbersMeetBy (removeOf sequence) w sequences values pages blocks result }
+    ensures { NumbersMeetBy (remove_of sequence) w sequences values pages blocks result }
 {
     in_numbers(remove(w, sequences, values, pages, blocks, sequence))
 }
@@ -232,7 +234,7 @@ pub extern "C" fn packet_window_insert(
     sequence: u32,
     value: u32,
 ) -> NumberedStep
-    ensures { NumbersMeetInto (insertOf sequence value) w sequences values pages blocks returned result }
+    ensures { NumbersMeetInto (insert_of sequence value) w sequences values pages blocks returned result }
 {
     in_numbers(insert(
         w, sequences, values, pages, blocks, returned, sequence, value,

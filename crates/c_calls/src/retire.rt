@@ -1,5 +1,5 @@
 // The calls that remove a range, clear and release, as lib.rt has the others.
-ghost use Rattle.model.specs.Calls.{remove_range, clear as clearOf, clear_bounded, release_retired};
+ghost use Rattle.model.specs.Calls.{remove_range, clear as clear_of, clear_bounded, release_retired};
 ghost use Rattle.c_calls.specs.Numbers.{NumbersMeetInto};
 
 use crate::{NumberedStep, in_numbers};
@@ -49,7 +49,7 @@ pub extern "C" fn packet_window_clear(
     blocks: &mut [u64],
     returned: &mut [u32],
 ) -> NumberedStep
-    ensures { NumbersMeetInto clearOf w sequences values pages blocks returned result }
+    ensures { NumbersMeetInto clear_of w sequences values pages blocks returned result }
 {
     in_numbers(clear(w, sequences, values, pages, blocks, returned))
 }

@@ -1,6 +1,8 @@
 // The host forms in C's calling convention: the header's start is passed, and it is updated in place. `./library` puts them
 // into the library.
-ghost use Rattle.model.specs.Calls.{insert as insertOf, remove as removeOf, release_retired};
+#![tactic(auto)]
+
+ghost use Rattle.model.specs.Calls.{insert as insert_of, remove as remove_of, release_retired};
 ghost use Rattle.c_host.specs.Outcomes.{SameOutcome, OutcomeMeetsBy, OutcomeMeetsInto};
 
 use c_calls::{NumberedAnswer, numbers};
@@ -36,7 +38,7 @@ pub extern "C" fn packet_window_host_insert(
     sequence: u32,
     value: u32,
 ) -> NumberedOutcome
-    ensures { OutcomeMeetsInto (insertOf sequence value) w sequences values pages blocks returned result }
+    ensures { OutcomeMeetsInto (insert_of sequence value) w sequences values pages blocks returned result }
 {
     outcome_in_numbers(call_host::insert(
         w, sequences, values, pages, blocks, returned, sequence, value,
@@ -52,7 +54,7 @@ pub extern "C" fn packet_window_host_remove(
     blocks: &mut [u64],
     sequence: u32,
 ) -> NumberedOutcome
-    ensures { OutcomeMeetsBy (removeOf sequence) w sequences values pages blocks result }
+    ensures { OutcomeMeetsBy (remove_of sequence) w sequences values pages blocks result }
 {
     outcome_in_numbers(call_host::remove(w, sequences, values, pages, blocks, sequence))
 }

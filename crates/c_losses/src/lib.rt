@@ -1,4 +1,6 @@
 // write_losses and read_losses in C's calling convention, as the calls of c_calls: the library's fourth object.
+#![tactic(auto)]
+
 ghost use Rattle.c_losses.specs.Promises.{NumbersWriteLossesBy, NumbersReadLossesBy};
 
 use c_calls::{NumberedStep, in_numbers};

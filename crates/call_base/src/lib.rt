@@ -1,6 +1,8 @@
 // What the calls share: an outcome with nothing returned, whether a page's values are reachable, sequences and distances, and the
 // count of a range; admits.rt
 // has the refusals.
+#![tactic(auto)]
+
 pub mod admits;
 
 ghost use Rattle.std.specs.Prelude.{◌≡◌, ◌+◌, ◌/◌, ◌<◌};

@@ -1,5 +1,7 @@
 // The call check, which says whether a state is sound: every page (page.rt), every block (block.rt) and the header (header.rt), then
 // base and point. It writes nothing.
+#![tactic(auto)]
+
 pub mod bits;
 pub mod block;
 pub mod header;
@@ -10,7 +12,7 @@ ghost use Rattle.std.specs.Prelude.{◌≤◌, length};
 ghost use Rattle.window.specs.Memory.{capacity};
 ghost use Rattle.window.specs.Lent.{found_in, ListsFit};
 ghost use Rattle.window.specs.Refusals.{Within};
-ghost use Rattle.model.specs.Calls.{check as checkOf, ask};
+ghost use Rattle.model.specs.Calls.{check as check_of, ask};
 ghost use Rattle.call_base.specs.Answers.{state_of, MeetsBy};
 ghost use Rattle.call_check.specs.Promises.{WordsLent, DecidesSound, Checks};
 
@@ -67,7 +69,7 @@ pub fn check(
     pages: &[u64],
     blocks: &[u64],
 ) -> Step
-    ensures { MeetsBy (ask checkOf) w sequences values pages blocks result }
+    ensures { MeetsBy (ask check_of) w sequences values pages blocks result }
 {
     let verdict = admits(
         w,

@@ -1,6 +1,8 @@
 // The host forms of insert, remove and release_retired: the caller's header is lent and updated in place. Each hands a copy of it to
 // the call by value and writes the header back that the call gives.
-ghost use Rattle.model.specs.Calls.{insert as insertOf, remove as removeOf, release_retired};
+#![tactic(auto)]
+
+ghost use Rattle.model.specs.Calls.{insert as insert_of, remove as remove_of, release_retired};
 ghost use Rattle.call_host.specs.Lent.{HostMeetsBy, HostMeetsInto};
 
 use window::AdaptiveReceiverPacketWindow;
@@ -16,7 +18,7 @@ pub fn insert(
     sequence: u32,
     value: u32,
 ) -> Outcome
-    ensures { HostMeetsInto (insertOf sequence value) w sequences values pages blocks returned result }
+    ensures { HostMeetsInto (insert_of sequence value) w sequences values pages blocks returned result }
 {
     let inserted = call_point::insert::insert(
         *w, sequences, values, pages, blocks, returned, sequence, value,
@@ -33,7 +35,7 @@ pub fn remove(
     blocks: &mut [u64],
     sequence: u32,
 ) -> Outcome
-    ensures { HostMeetsBy (removeOf sequence) w sequences values pages blocks result }
+    ensures { HostMeetsBy (remove_of sequence) w sequences values pages blocks result }
 {
     let removed = call_point::remove::remove(*w, sequences, values, pages, blocks, sequence);
     *w = removed.window;

@@ -1,5 +1,6 @@
 // The loss report (document 02, S-4): write_losses gives the draft's loss list of the sequences of a range that are not live, read_losses
 // takes such a list apart. Neither changes the window.
+#![tactic(auto)]
 
 ghost use Rattle.std.specs.Prelude.{◌≤◌, length};
 ghost use Rattle.acknowledge.specs.Promises.{ListsLent};

@@ -1,7 +1,7 @@
 // exchange: the value of the sequence, and another put in its place.
 ghost use Rattle.std.specs.Prelude.{◌+◌, ◌*◌, ◌≤◌, ◌<◌, length};
 ghost use Rattle.window.specs.Lent.{ListsFit};
-ghost use Rattle.model.specs.Calls.{exchange as exchangeOf};
+ghost use Rattle.model.specs.Calls.{exchange as exchange_of};
 ghost use Rattle.call_base.specs.Answers.{MeetsBy};
 ghost use Rattle.call_base.specs.Promises.{AdmittedBy};
 ghost use Rattle.call_point.specs.Promises.{ExchangesIn};
@@ -45,7 +45,7 @@ fn exchange_value(
     value: u32,
 ) -> Step
     requires { ListsFit w sequences values pages blocks }
-    ensures { AdmittedBy (exchangeOf sequence value) w sequences values pages blocks result }
+    ensures { AdmittedBy (exchange_of sequence value) w sequences values pages blocks result }
 {
     let n = w.n as usize;
     let page = position(w.window_size, sequence) / PAGE_SLOTS;
@@ -66,7 +66,7 @@ pub fn exchange(
     sequence: u32,
     value: u32,
 ) -> Step
-    ensures { MeetsBy (exchangeOf sequence value) w sequences values pages blocks result }
+    ensures { MeetsBy (exchange_of sequence value) w sequences values pages blocks result }
 {
     let verdict = admits(
         w,

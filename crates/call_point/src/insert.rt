@@ -2,7 +2,7 @@
 ghost use Rattle.std.specs.Prelude.{◌+◌, ◌*◌, ◌/◌, ◌≤◌, ◌<◌, length};
 ghost use Rattle.window.specs.Memory.{words_per_page, words_per_block, RowIn};
 ghost use Rattle.window.specs.Lent.{ListsFit, found_in, left_in};
-ghost use Rattle.model.specs.Calls.{insert as insertOf};
+ghost use Rattle.model.specs.Calls.{insert as insert_of};
 ghost use Rattle.acknowledge.specs.Promises.{ListsLent};
 ghost use Rattle.call_base.specs.Answers.{MeetsInto};
 ghost use Rattle.call_base.specs.Promises.{AdmittedInto};
@@ -202,7 +202,7 @@ fn insert_value(
     value: u32,
 ) -> Step
     requires { ListsFit w sequences values pages blocks × (384 ≤ length returned.old) }
-    ensures { AdmittedInto (insertOf sequence value) w sequences values pages blocks returned result }
+    ensures { AdmittedInto (insert_of sequence value) w sequences values pages blocks returned result }
 {
     let n = w.n as usize;
     let page = position(w.window_size, sequence) / PAGE_SLOTS;
@@ -249,7 +249,7 @@ pub fn insert(
     sequence: u32,
     value: u32,
 ) -> Step
-    ensures { MeetsInto (insertOf sequence value) w sequences values pages blocks returned result }
+    ensures { MeetsInto (insert_of sequence value) w sequences values pages blocks returned result }
 {
     let verdict = admits(
         w,

@@ -2,7 +2,7 @@
 ghost use Rattle.std.specs.Prelude.{◌+◌, ◌*◌, ◌/◌, ◌≤◌, ◌<◌, length};
 ghost use Rattle.window.specs.Memory.{words_per_page, words_per_block, RowIn};
 ghost use Rattle.window.specs.Lent.{ListsFit};
-ghost use Rattle.model.specs.Calls.{remove as removeOf};
+ghost use Rattle.model.specs.Calls.{remove as remove_of};
 ghost use Rattle.call_base.specs.Answers.{MeetsBy};
 ghost use Rattle.call_base.specs.Promises.{AdmittedBy};
 ghost use Rattle.call_point.specs.Promises.{RemovesIn, KeepsRemoved, KeepsTaken};
@@ -74,7 +74,7 @@ pub fn remove_value(
     sequence: u32,
 ) -> Step
     requires { ListsFit w sequences values pages blocks }
-    ensures { AdmittedBy (removeOf sequence) w sequences values pages blocks result }
+    ensures { AdmittedBy (remove_of sequence) w sequences values pages blocks result }
 {
     let n = w.n as usize;
     let demote_at = w.demote_at as usize;
@@ -114,7 +114,7 @@ pub fn remove(
     blocks: &mut [u64],
     sequence: u32,
 ) -> Step
-    ensures { MeetsBy (removeOf sequence) w sequences values pages blocks result }
+    ensures { MeetsBy (remove_of sequence) w sequences values pages blocks result }
 {
     let verdict = admits(
         w,

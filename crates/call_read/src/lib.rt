@@ -1,11 +1,13 @@
 // The calls that read: get, successor_after, first_from and iter; stranger.rt has stranger. Each takes the header, the lent lists and
 // numbers, and gives the header back as it is: its refusals, or else the answer of one inner function.
+#![tactic(auto)]
+
 pub mod cells;
 pub mod round;
 pub mod stranger;
 
 ghost use Rattle.window.specs.Lent.{ListsFit};
-ghost use Rattle.model.specs.Calls.{get as getOf, successor_after, first_from, iter as iterOf, ask};
+ghost use Rattle.model.specs.Calls.{get as get_of, successor_after, first_from, iter as iter_of, ask};
 ghost use Rattle.call_base.specs.Answers.{MeetsBy};
 ghost use Rattle.call_base.specs.Promises.{TellsBy};
 
@@ -29,7 +31,7 @@ pub fn value_of(
     sequence: u32,
 ) -> Answer
     requires { ListsFit w sequences values pages blocks }
-    ensures { TellsBy (getOf sequence) w sequences values pages blocks result }
+    ensures { TellsBy (get_of sequence) w sequences values pages blocks result }
 {
     let n = w.n as usize;
     let page = position(w.window_size, sequence) / PAGE_SLOTS;
@@ -56,7 +58,7 @@ pub fn get(
     blocks: &[u64],
     sequence: u32,
 ) -> Step
-    ensures { MeetsBy (ask (getOf sequence)) w sequences values pages blocks result }
+    ensures { MeetsBy (ask (get_of sequence)) w sequences values pages blocks result }
 {
     let verdict = admits(
         w,
@@ -136,7 +138,7 @@ fn next_pair(
     cell: u32,
 ) -> Answer
     requires { ListsFit w sequences values pages blocks }
-    ensures { TellsBy (iterOf cell) w sequences values pages blocks result }
+    ensures { TellsBy (iter_of cell) w sequences values pages blocks result }
 {
     let start = cell as usize;
     let end = capacity(w.window_size);
@@ -162,7 +164,7 @@ pub fn iter(
     blocks: &[u64],
     cell: u32,
 ) -> Step
-    ensures { MeetsBy (ask (iterOf cell)) w sequences values pages blocks result }
+    ensures { MeetsBy (ask (iter_of cell)) w sequences values pages blocks result }
 {
     let verdict = admits(
         w,

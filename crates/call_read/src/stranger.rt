@@ -3,7 +3,7 @@ ghost use Rattle.std.specs.Prelude.{◌≡◌, ◌*◌, ◌<◌, ◌≤◌, leng
 ghost use Rattle.std.proofs.Math.Option.{some};
 ghost use Rattle.window.specs.Memory.{capacity as capacity_of, page_count_of, block_count_of, words_per_page, words_per_block};
 ghost use Rattle.window.specs.Lent.{found_in, ListsFit};
-ghost use Rattle.model.specs.Calls.{stranger as strangerOf, ask};
+ghost use Rattle.model.specs.Calls.{stranger as stranger_of, ask};
 ghost use Rattle.model.specs.Table.{pair_of, range_count_of, is_stranger_of};
 ghost use Rattle.call_base.specs.Answers.{answer_of, MeetsBy};
 ghost use Rattle.call_base.specs.Promises.{TellsBy};
@@ -136,7 +136,7 @@ fn first_stranger(
     last: u32,
 ) -> Answer
     requires { ListsFit w sequences values pages blocks × (range_count_of first last ≤ w.window_size) }
-    ensures { TellsBy (strangerOf first last) w sequences values pages blocks result }
+    ensures { TellsBy (stranger_of first last) w sequences values pages blocks result }
 {
     let count = range_count(first, last);
     let found = find_in_range(w, sequences, pages, blocks, first, count);
@@ -153,7 +153,7 @@ pub fn stranger(
     first: u32,
     last: u32,
 ) -> Step
-    ensures { MeetsBy (ask (strangerOf first last)) w sequences values pages blocks result }
+    ensures { MeetsBy (ask (stranger_of first last)) w sequences values pages blocks result }
 {
     let verdict = admits(
         w,

@@ -1,7 +1,7 @@
 // clear: every value retired, and a release visit with its whole budget.
 ghost use Rattle.std.specs.Prelude.{◌≤◌, length};
 ghost use Rattle.window.specs.Lent.{ListsFit};
-ghost use Rattle.model.specs.Calls.{clear as clearOf};
+ghost use Rattle.model.specs.Calls.{clear as clear_of};
 ghost use Rattle.model.specs.Steps.{clear_step};
 ghost use Rattle.call_base.specs.Answers.{MeetsInto};
 ghost use Rattle.call_base.specs.Promises.{FillsBy};
@@ -49,7 +49,7 @@ pub fn clear(
     blocks: &mut [u64],
     returned: &mut [u32],
 ) -> Step
-    ensures { MeetsInto clearOf w sequences values pages blocks returned result }
+    ensures { MeetsInto clear_of w sequences values pages blocks returned result }
 {
     let verdict = admits(
         w,

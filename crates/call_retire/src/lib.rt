@@ -1,5 +1,7 @@
 // The calls that retire and release: remove_range, clear, clear_bounded and release_retired. Each takes the header, the lent lists, the
 // return list and numbers, and gives the header back with its outcome.
+#![tactic(auto)]
+
 pub mod clear;
 pub mod clear_bounded;
 pub mod release_retired;

@@ -1,1 +1,2 @@
 // Laws only: demotions by cause. See specs/.
+#![tactic(auto)]

@@ -1,1 +1,2 @@
 // Laws only: a sound window stays sound. See specs/.
+#![tactic(auto)]

@@ -1,4 +1,6 @@
 // The call that a line makes, by its letter and fields; list.rt has l.
+#![tactic(auto)]
+
 pub mod list;
 
 ghost use Rattle.line_text.specs.Promises.{said_by};

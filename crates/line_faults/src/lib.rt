@@ -1,4 +1,6 @@
 // What is wrong with a line that is no call, for the message to the one who wrote it. A line comes without its line feed.
+#![tactic(auto)]
+
 ghost use Rattle.std.specs.Prelude.{◌≡◌};
 ghost use Rattle.line_text.specs.Promises.{count_or4};
 ghost use Rattle.line_text.specs.Lines.{line_of};

@@ -1,4 +1,6 @@
 // The output lines of the line program, put into a buffer of bytes from a place on. Each function gives the place after what it put.
+#![tactic(auto)]
+
 ghost use Rattle.std.specs.Prelude.{◌≡◌, ◌+◌, ◌≤◌, length, take, nat_le};
 ghost use Rattle.line_text.specs.PrintContracts.{Puts};
 ghost use Rattle.call_base.specs.Answers.{answer_of};

@@ -1,4 +1,6 @@
 // The line program on slices: a part of the input, and the answers of the lines that end in it.
+#![tactic(auto)]
+
 pub mod answer;
 pub mod notes;
 

@@ -1,4 +1,6 @@
 // The lines of the line program: read from bytes. A line comes without its line feed.
+#![tactic(auto)]
+
 pub mod print;
 
 ghost use Rattle.std.specs.Prelude.{◌≡◌, ◌≤◌, length};

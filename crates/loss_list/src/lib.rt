@@ -1,5 +1,7 @@
 // The draft's loss list (document 02, S-4), by distances from the first sequence of its range: the words of a run of lost sequences.
 // read.rt has the reading of a list.
+#![tactic(auto)]
+
 pub mod read;
 
 ghost use Rattle.std.specs.Prelude.{◌≡◌, ◌+◌, ◌≤◌, ◌^◌, ◌<◌, length as length_of};

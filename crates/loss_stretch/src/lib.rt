@@ -1,5 +1,7 @@
 // A range of sequences as stretches that are all live or all lost, by one mask for each row of 64 sequences, which have the positions of
 // one page.
+#![tactic(auto)]
+
 ghost use Rattle.std.specs.Prelude.{◌≡◌, ◌<◌};
 ghost use Rattle.acknowledge.specs.Promises.{ListsLent};
 ghost use Rattle.loss_stretch.specs.Promises.{row_end_of, MasksRow, KnowsAt, KnowsRow, Stretches};

@@ -1,1 +1,2 @@
 // Definitions only: what the calls mean, and what is claimed of them. See specs/.
+#![tactic(auto)]

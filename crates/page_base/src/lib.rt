@@ -1,4 +1,6 @@
 // One page of the window: its words, its 64 cells as a part of the lent memory, and how its values are found and read.
+#![tactic(auto)]
+
 pub mod find;
 
 ghost use Rattle.std.specs.Prelude.{◌≡◌, ◌+◌, ◌*◌, ◌≤◌, ◌<◌, length};

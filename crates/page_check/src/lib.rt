@@ -1,4 +1,6 @@
 // Whether one page is sound by itself: the part of `check` that looks at a page's words and its 64 cells.
+#![tactic(auto)]
+
 ghost use Rattle.std.specs.Prelude.{◌≡◌, ◌≤◌, length};
 ghost use Rattle.window.specs.Memory.{capacity};
 ghost use Rattle.page_base.specs.Page.{cells};

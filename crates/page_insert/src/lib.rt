@@ -1,4 +1,6 @@
 // A value into a page. `sequences` and `values` are the page's 64 cells: a part of the lent memory, which begins at 64 × page.
+#![tactic(auto)]
+
 ghost use Rattle.std.specs.Prelude.{◌≡◌, ◌<◌, ◌≤◌, length};
 ghost use Rattle.model.specs.Pages.{put_cell};
 ghost use Rattle.page_base.specs.Page.{page as page_of};

@@ -1,4 +1,6 @@
 // Values of a retired page handed back: for a release visit, and for an insert into the page.
+#![tactic(auto)]
+
 ghost use Rattle.std.specs.Prelude.{◌≡◌, ◌+◌, ◌*◌, ◌/◌, ◌≤◌, ◌<◌, length};
 ghost use Rattle.window.specs.Memory.{words_per_page, words_per_block, RowIn};
 ghost use Rattle.page_release.specs.Promises.{settled_words, ReleasesPage, Revives};

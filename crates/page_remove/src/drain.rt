@@ -1,7 +1,7 @@
 // A page's lowest values into a return list, for release and range removal.
 ghost use Rattle.std.specs.Prelude.{◌+◌, ◌<◌, ◌≤◌, ◌≡◌, length, drop};
 ghost use Rattle.std.proofs.Math.Seq.{paste};
-ghost use Rattle.words.specs.Word.{lowest as lowestOf, clear_bit};
+ghost use Rattle.words.specs.Word.{lowest as lowest_of, clear_bit};
 ghost use Rattle.page_remove.specs.Promises.{Drains, DrainsDense, run_length_of};
 
 use crate::take_cell;
@@ -20,7 +20,7 @@ pub struct Drained {
 // w without its lowest set bit.
 fn clear_lowest(w: u64) -> u64
     requires { 0 < w }
-    ensures { result ≡ clear_bit w (lowestOf w 0) }
+    ensures { result ≡ clear_bit w (lowest_of w 0) }
 {
     w & (w - 1)
 }

@@ -1,5 +1,7 @@
 // A value, or several, out of a page. `sequences` and `values` are the page's 64 cells: a part of the lent memory, which begins at
 // 64 × page.
+#![tactic(auto)]
+
 pub mod drain;
 
 ghost use Rattle.std.specs.Prelude.{◌≡◌, ◌<◌, length};

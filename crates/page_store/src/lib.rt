@@ -1,5 +1,7 @@
 // The bookkeeping for one page that an insert, a removal or a release changed: in the header and in the words of its block, by value.
 // store.rt writes it, with the page's words, into the lent lists.
+#![tactic(auto)]
+
 pub mod store;
 
 ghost use Rattle.std.specs.Prelude.{◌≡◌, ◌-◌, ◌<◌};

@@ -1,5 +1,7 @@
 // A range of positions retired: values taken out now, into a return list, and whole pages retired by marks. slots.rt has one page,
 // span.rt a stretch, range.rt the range.
+#![tactic(auto)]
+
 pub mod range;
 pub mod slots;
 pub mod span;

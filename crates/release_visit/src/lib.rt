@@ -1,4 +1,6 @@
 // Releases over several pages: a release visit from the cursor here, clear_bounded's of all pages in their order in bounded.rt.
+#![tactic(auto)]
+
 pub mod bounded;
 
 ghost use Rattle.std.specs.Prelude.{◌≡◌, ◌+◌, ◌*◌, ◌≤◌, ◌<◌, length};

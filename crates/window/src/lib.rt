@@ -1,5 +1,7 @@
 // The header of the packet window, by value, its constants and `new`. The memory that it speaks of is lent by the caller (memory.rt);
 // what a call refuses is in refusals.rt.
+#![tactic(auto)]
+
 pub mod answers;
 pub mod memory;
 pub mod refusals;

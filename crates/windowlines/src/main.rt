@@ -1,5 +1,7 @@
 // The line program: one call a line from standard input, one line to standard output for each. window_size is at most 4096. What is
 // printed for a part of the input is decided in line_program; here bytes are moved.
+#![tactic(auto)]
+
 mod run;
 mod streams;
 

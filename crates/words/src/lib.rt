@@ -1,7 +1,9 @@
 // The bits of a 64-bit word: test, set, clear, a span, the lowest set bit from a place on, the number of set bits.
 // Bit 0 is the lowest. What each function gives is a definition of specs/Word.antt; the laws on those stand beside it.
+#![tactic(auto)]
+
 ghost use Rattle.std.specs.Prelude.{◌≡◌, ◌<◌, ◌≤◌};
-ghost use Rattle.words.specs.Word.{bit_at, set_bit, clear_bit, span as span_of, lowest as lowestOf, count as count_of};
+ghost use Rattle.words.specs.Word.{bit_at, set_bit, clear_bit, span as span_of, lowest as lowest_of, count as count_of};
 
 // Bit k of w: 1 or 0.
 pub fn bit(w: u64, k: usize) -> u64
@@ -38,7 +40,7 @@ pub fn span(from: usize, to: usize) -> u64
 // The lowest set bit of w at or above k; 64 if there is none.
 pub fn lowest(w: u64, k: usize) -> usize
     requires { k < 64 }
-    ensures { result ≡ lowestOf w k }
+    ensures { result ≡ lowest_of w k }
 {
     u64::trailing_zeros(w & (u64::MAX << k)) as usize
 }

@@ -44,8 +44,8 @@ loop-again c = pass_on _ _ _ _ _ _ _ _ _ c.before.before.before.before.before.lo
 returns-3 : tie.Need-returns-3 invariant-loop decreases-loop
 returns-3 c = pass_all _ _ _ _ _ _ _ c.before.loop.invariant (omega arith)
 
-pub advance-spec : {M : Type 1} → statement M
-advance-spec =
+pub advance_spec : {M : Type 1} → statement M
+advance_spec =
     tie.close
     (tie.spec
     invariant-loop

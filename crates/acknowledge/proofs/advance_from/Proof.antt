@@ -15,5 +15,5 @@ sub-result c = search rules
 returns-3 : tie.Need-returns-3
 returns-3 c = simp (le-leb _ _ c.before.if1.false, eq-eqb _ _ c.if2.false)
 
-pub advance-from-spec : {M : Type 1} → statement M
-advance-from-spec = tie.close (tie.spec returns returns-2 sub-result returns-3)
+pub advance_from_spec : {M : Type 1} → statement M
+advance_from_spec = tie.close (tie.spec returns returns-2 sub-result returns-3)

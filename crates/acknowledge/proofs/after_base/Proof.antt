@@ -8,5 +8,5 @@ moved-point-requires c κs = search rules
 returns : tie.Need-returns
 returns c = record { header = refl; point = c.moved-point.ensures.is }
 
-pub after-base-spec : {M : Type 1} → statement M
-after-base-spec = tie.close (tie.spec moved-point-requires returns)
+pub after_base_spec : {M : Type 1} → statement M
+after_base_spec = tie.close (tie.spec moved-point-requires returns)

@@ -63,8 +63,8 @@ returns-3 c =
           ∙ insert-on s.args.w.window_size (live s vs) s.args.v.base s.args.v.point s.args.sequence _ d.distance.ensures d.before.if1.false z.before.if2.false;
     }
 
-pub after-insert-spec : {M : Type 1} → statement M
-after-insert-spec =
+pub after_insert_spec : {M : Type 1} → statement M
+after_insert_spec =
     tie.close
     (tie.spec
     returns

@@ -30,8 +30,8 @@ returns-2 c =
     ap (set_point s.v)
     (range-after (capacity s.size) (position s.size s.first) s.count s.v.base s.v.point _ _ c.before.before.first-covered.ensures c.before.distance.ensures c.if1.false)
 
-pub after-range-spec : {M : Type 1} → statement M
-after-range-spec =
+pub after_range_spec : {M : Type 1} → statement M
+after_range_spec =
     tie.close
     (tie.spec
     first-covered-requires

@@ -24,7 +24,7 @@ returns-2 c =
     let s = c.before.before.before.args in
     ap (set_point s.w) (remove-after s.w.base s.w.point s.sequence _ _ c.before.before.distance.ensures c.before.distance2.ensures c.if1.false)
 
-pub after-remove-spec : {M : Type 1} → statement M
-after-remove-spec =
+pub after_remove_spec : {M : Type 1} → statement M
+after_remove_spec =
     tie.close
     (tie.spec distance-requires distance-requires-2 with-point-requires returns returns-2)

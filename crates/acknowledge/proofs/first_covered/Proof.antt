@@ -35,8 +35,8 @@ returns-2 c =
     ∙ least_first s.size s.base s.first s.count c.before.before.before.before.wrapping-sub-u32.result (omega arith) c.before.before.before.before.wrapping-sub-u32.ensures
     (rw p at c.before.before.if1.false) c.before.wrapping-sub-u322.result c.before.wrapping-sub-u322.ensures
 
-pub first-covered-spec : {M : Type 1} → statement M
-first-covered-spec =
+pub first_covered_spec : {M : Type 1} → statement M
+first_covered_spec =
     tie.close
     (tie.spec
     wrapping-sub-u32-requires

@@ -29,5 +29,5 @@ returns-2 c =
           record { holds = λ q. (low, eqb-true _ _ q ∙ e); fails = λ q a. eqb-false _ _ q (a.1 ∙ sym e) };
     }
 
-pub is-current-spec : {M : Type 1} → statement M
-is-current-spec = tie.close (tie.spec is-wire-number-requires returns point-from-requires returns-2)
+pub is_current_spec : {M : Type 1} → statement M
+is_current_spec = tie.close (tie.spec is-wire-number-requires returns point-from-requires returns-2)

@@ -70,8 +70,8 @@ returns-2 c =
           (sym p.point-stays.ensures ∙ f.before.if1.false);
     }
 
-pub moved-point-spec : {M : Type 1} → statement M
-moved-point-spec =
+pub moved_point_spec : {M : Type 1} → statement M
+moved_point_spec =
     tie.close
     (tie.spec
     distance-requires

@@ -12,5 +12,5 @@ sequence-at-requires c κs = search rules
 returns : tie.Need-returns
 returns c = record { is = λ vs ok. c.sequence-at.ensures ∙ ap (sequence_at_of _) (c.before.advance.ensures.is vs ok) }
 
-pub point-from-spec : {M : Type 1} → statement M
-point-from-spec = tie.close (tie.spec advance-requires sequence-at-requires returns)
+pub point_from_spec : {M : Type 1} → statement M
+point_from_spec = tie.close (tie.spec advance-requires sequence-at-requires returns)

@@ -9,5 +9,5 @@ returns c = simp (lt-leb _ _ c.if1.true)
 returns-2 : tie.Need-returns-2
 returns-2 c = simp (le-leb _ _ c.if1.false)
 
-pub point-stays-spec : {M : Type 1} → statement M
-point-stays-spec = tie.close (tie.spec returns returns-2)
+pub point_stays_spec : {M : Type 1} → statement M
+point_stays_spec = tie.close (tie.spec returns returns-2)

@@ -13,5 +13,5 @@ wrapping-add-u64-requires c κs = search rules
 returns : tie.Need-returns
 returns c = adds-live _ _ _ _ _ c.before.wrapping-add-u32.ensures c.wrapping-add-u64.ensures
 
-pub add-live-spec : {M : Type 1} → statement M
-add-live-spec = tie.close (tie.spec wrapping-add-u32-requires wrapping-add-u64-requires returns)
+pub add_live_spec : {M : Type 1} → statement M
+add_live_spec = tie.close (tie.spec wrapping-add-u32-requires wrapping-add-u64-requires returns)

@@ -35,8 +35,8 @@ returns : tie.Need-returns
 unfolding block_words_at
 returns c = rw add-zero
 
-pub block-words-spec : {M : Type 1} → statement M
-block-words-spec =
+pub block_words_spec : {M : Type 1} → statement M
+block_words_spec =
     tie.close
     (tie.spec
     mul-a

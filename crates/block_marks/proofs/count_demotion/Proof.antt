@@ -30,8 +30,8 @@ returns c = counts-single _ _ _ c.before.enum_told.given.1 c.wrapping-add-u64.en
 returns-2 : tie.Need-returns-2
 returns-2 c = counts-range _ _ _ c.before.enum-told2.given.1 c.wrapping-add-u642.ensures
 
-pub count-demotion-spec : {M : Type 1} → statement M
-count-demotion-spec =
+pub count_demotion_spec : {M : Type 1} → statement M
+count_demotion_spec =
     tie.close
     (tie.spec
     enum_told

@@ -10,5 +10,5 @@ wrapping-add-u64-requires c κs = search rules
 returns : tie.Need-returns
 returns c = counts-promotion _ _ c.wrapping-add-u64.ensures
 
-pub count-promotion-spec : {M : Type 1} → statement M
-count-promotion-spec = tie.close (tie.spec wrapping-add-u64-requires returns)
+pub count_promotion_spec : {M : Type 1} → statement M
+count_promotion_spec = tie.close (tie.spec wrapping-add-u64-requires returns)

@@ -36,7 +36,7 @@ returns c = notes _ _ _ _ _ _ _ (words_are c.before.before.before) (eq-eqb _ _ c
 returns-2 : tie.Need-returns-2
 returns-2 c = notes _ _ _ _ _ _ _ (words_are c.before.before.before) (ne_eqb _ _ c.before.if2.false) c.set2.ensures
 
-pub note-page-spec : {M : Type 1} → statement M
-note-page-spec =
+pub note_page_spec : {M : Type 1} → statement M
+note_page_spec =
     tie.close
     (tie.spec set-requires clear-requires clear-requires-2 set-requires-2 returns returns-2)

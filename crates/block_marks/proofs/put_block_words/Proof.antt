@@ -39,8 +39,8 @@ returns : tie.Need-returns
 unfolding with_words
 returns c = simp unary_clauses
 
-pub put-block-words-spec : {M : Type 1} → statement M
-put-block-words-spec =
+pub put_block_words_spec : {M : Type 1} → statement M
+put_block_words_spec =
     tie.close
     (tie.spec
     mul-a

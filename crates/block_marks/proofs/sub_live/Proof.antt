@@ -20,5 +20,5 @@ returns c = takes-live _ _ _ _ _ (len_is c.before.before.before) refl
 returns-2 : tie.Need-returns-2
 returns-2 c = takes-live _ _ _ _ _ (len_is c.before.before) (omega (arith, c.if2.false))
 
-pub sub-live-spec : {M : Type 1} → statement M
-sub-live-spec = tie.close (tie.spec returns returns-2)
+pub sub_live_spec : {M : Type 1} → statement M
+sub_live_spec = tie.close (tie.spec returns returns-2)

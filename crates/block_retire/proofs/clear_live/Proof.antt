@@ -56,8 +56,8 @@ same_length c = long c.before
 returns : tie.Need-returns invariant-loop decreases-loop
 returns c = let e : c.before.loop.block ≡ c.before.before.args.count = omega arith in c.before.loop.invariant.1 ∙ ap (λ (n : ℕ). without_live n c.before.before.args.blocks.now) e
 
-pub clear-live-spec : {M : Type 1} → statement M
-clear-live-spec =
+pub clear_live_spec : {M : Type 1} → statement M
+clear_live_spec =
     tie.close
     (tie.spec
     invariant-loop

@@ -14,5 +14,5 @@ wrapping-add-u32-requires c κs = search rules
 returns : tie.Need-returns
 returns c = ap (set_held c.before.args.w) c.wrapping-add-u32.ensures
 
-pub more-held-spec : {M : Type 1} → statement M
-more-held-spec = tie.close (tie.spec wrapping-add-u32-requires returns)
+pub more_held_spec : {M : Type 1} → statement M
+more_held_spec = tie.close (tie.spec wrapping-add-u32-requires returns)

@@ -49,8 +49,8 @@ returns c =
     let s = c.before.before.before.before.before.before.before.before.before in
     retires-all s.args.w _ _ _ _ _ _ c.before.before.before.before.before.before.before.block-count.ensures c.before.before.before.before.before.clear-live.ensures c.before.before.more-held.ensures c.before.span.ensures s.requires.1 c.settle-retired.ensures
 
-pub retire-all-spec : {M : Type 1} → statement M
-retire-all-spec =
+pub retire_all_spec : {M : Type 1} → statement M
+retire_all_spec =
     tie.close
     (tie.spec
     block-count-requires

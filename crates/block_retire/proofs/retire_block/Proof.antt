@@ -29,6 +29,6 @@ more-held-requires c κs = search rules
 returns : tie.Need-returns
 returns c = let s = c.before.before.before.before.before.args in retires-block s.w s.b s.block _ _ _ _ c.before.before.before.before.low.ensures c.before.before.before.set.ensures c.before.before.sub-live.ensures c.more-held.ensures
 
-pub retire-block-spec : {M : Type 1} → statement M
-retire-block-spec =
+pub retire_block_spec : {M : Type 1} → statement M
+retire_block_spec =
     tie.close (tie.spec low-requires set-requires sub-live-requires more-held-requires returns)

@@ -67,8 +67,8 @@ same_length c = c.before.loop.invariant.long
 returns : tie.Need-returns invariant-loop decreases-loop
 returns c = marking-ends _ _ _ _ _ _ (fits c.before.before.before.before) c.before.loop.invariant c.loop-test.false
 
-pub retire-blocks-spec : {M : Type 1} → statement M
-retire-blocks-spec =
+pub retire_blocks_spec : {M : Type 1} → statement M
+retire_blocks_spec =
     tie.close
     (tie.spec
     invariant-loop

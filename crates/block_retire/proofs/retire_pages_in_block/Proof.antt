@@ -60,8 +60,8 @@ returns c =
     retires-in-block _ _ _ _ _ _ _ _ _ _ _ _ _ c.before.before.before.before.before.before.before.before.before.before.before.before.before.block_words.ensures c.before.before.before.before.before.before.before.before.before.before.before.before.split-retired-block.ensures c.before.before.before.before.before.before.before.before.before.newly-retired.ensures
     c.before.before.before.before.before.before.before.mark-pages.ensures c.before.before.before.before.before.before.before.before.values-in.ensures c.before.before.before.before.before.before.sub-live.ensures c.more-held.ensures c.before.before.before.put-block-words.ensures
 
-pub retire-pages-in-block-spec : {M : Type 1} → statement M
-retire-pages-in-block-spec =
+pub retire_pages_in_block_spec : {M : Type 1} → statement M
+retire_pages_in_block_spec =
     tie.close
     (tie.spec
     block-words-requires

@@ -68,8 +68,8 @@ loop-again c = counting-turn _ _ _ _ _ c.before.before.before.before.before.loop
 returns : tie.Need-returns invariant-loop decreases-loop
 returns c = counting-ends _ _ _ _ _ c.before.loop.invariant c.loop-test.false
 
-pub values-in-spec : {M : Type 1} → statement M
-values-in-spec =
+pub values_in_spec : {M : Type 1} → statement M
+values_in_spec =
     tie.close
     (tie.spec
     invariant-loop

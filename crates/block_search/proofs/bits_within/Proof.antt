@@ -34,5 +34,5 @@ returns c =
     let p = j.before.before.requires in
     c.span.ensures ∙ (λ i. span (from_is j.before i) (to_is j i)) ∙ span-within _ _ _ p.0 p.1 p.2
 
-pub bits-within-spec : {M : Type 1} → statement M
-bits-within-spec = tie.close (tie.spec sub-if2 sub-to add-to span-requires returns)
+pub bits_within_spec : {M : Type 1} → statement M
+bits_within_spec = tie.close (tie.spec sub-if2 sub-to add-to span-requires returns)

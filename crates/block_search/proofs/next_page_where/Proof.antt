@@ -105,8 +105,8 @@ loop-again c =
 returns-3 : tie.Need-returns-3 invariant-loop decreases-loop
 returns-3 c = ends _ _ _ _ _ _ c.before.before.before.before.before.requires.0 _ c.before.loop.invariant c.loop-test.false
 
-pub next-page-where-spec : {M : Type 1} → statement M
-next-page-where-spec =
+pub next_page_where_spec : {M : Type 1} → statement M
+next_page_where_spec =
     tie.close
     (tie.spec
     invariant-loop

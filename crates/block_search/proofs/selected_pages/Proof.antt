@@ -48,8 +48,8 @@ returns-3 c =
     let r = c.before.before.retired-pages in
     retired-code x _ _ _ (nonempty_fits b) r.ensures ∙ read-from _ _ _ _ _ _ b.block_words.ensures c.enum-told3.given.1
 
-pub selected-pages-spec : {M : Type 1} → statement M
-selected-pages-spec =
+pub selected_pages_spec : {M : Type 1} → statement M
+selected_pages_spec =
     tie.close
     (tie.spec
     block-words-requires

@@ -21,5 +21,5 @@ returns c =
     let t = c.before.check in
     in-numbers _ _ _ t.result c.in-numbers.result _ _ c.in-numbers.ensures t.ensures
 
-pub packet-window-check-spec : {M : Type 1} → statement M
-packet-window-check-spec = tie.close (tie.spec check-requires in-numbers-requires returns)
+pub packet_window_check_spec : {M : Type 1} → statement M
+packet_window_check_spec = tie.close (tie.spec check-requires in-numbers-requires returns)

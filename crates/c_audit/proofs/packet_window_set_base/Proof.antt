@@ -18,5 +18,5 @@ returns c =
     let t = c.before.set_base in
     in-numbers _ _ _ t.result c.in-numbers.result _ _ c.in-numbers.ensures t.ensures
 
-pub packet-window-set-base-spec : {M : Type 1} → statement M
-packet-window-set-base-spec = tie.close (tie.spec set-base-requires in-numbers-requires returns)
+pub packet_window_set_base_spec : {M : Type 1} → statement M
+packet_window_set_base_spec = tie.close (tie.spec set-base-requires in-numbers-requires returns)

@@ -21,5 +21,5 @@ returns c =
     let t = c.before.stranger in
     in-numbers _ _ _ t.result c.in-numbers.result _ _ c.in-numbers.ensures t.ensures
 
-pub packet-window-stranger-spec : {M : Type 1} → statement M
-packet-window-stranger-spec = tie.close (tie.spec stranger-requires in-numbers-requires returns)
+pub packet_window_stranger_spec : {M : Type 1} → statement M
+packet_window_stranger_spec = tie.close (tie.spec stranger-requires in-numbers-requires returns)

@@ -30,8 +30,8 @@ returns c =
     let t = c.before.before.before.before.before.before.before.before.before.take_front in
     in-numbers _ _ _ t.result c.in-numbers.result _ _ c.in-numbers.ensures t.ensures
 
-pub packet-window-take-front-spec : {M : Type 1} → statement M
-packet-window-take-front-spec =
+pub packet_window_take_front_spec : {M : Type 1} → statement M
+packet_window_take_front_spec =
     tie.close
     (tie.spec
     take-front-requires

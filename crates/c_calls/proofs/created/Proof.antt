@@ -53,8 +53,8 @@ returns-2 c =
     ∙ (λ i. step (c.before.before.before.no-window.ensures i) (c.before.numbered2.ensures i))
     ∙ ap (λ (k : ℕ). step (fresh 0 0 0) (numbered 7 k 0 0 0)) c.before.before.refusal-number.ensures)
 
-pub created-spec : {M : Type 1} → statement M
-created-spec =
+pub created_spec : {M : Type 1} → statement M
+created_spec =
     tie.close
     (tie.spec
     enum-known-made

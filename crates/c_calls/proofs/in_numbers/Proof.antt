@@ -16,5 +16,5 @@ returns c =
     = λ a. record { window = s.window; answer = a; count = s.answer.count } in
     ap with c.numbers.ensures
 
-pub in-numbers-spec : {M : Type 1} → statement M
-in-numbers-spec = tie.close (tie.spec numbers-requires returns)
+pub in_numbers_spec : {M : Type 1} → statement M
+in_numbers_spec = tie.close (tie.spec numbers-requires returns)

@@ -94,8 +94,8 @@ returns-8 c = told-as _ _ _ c.before.before.answer5.given.1 c.numbered8.ensures
 returns-9 : tie.Need-returns-9
 returns-9 c = told-as _ _ _ c.before.before.before.answer6.given.1 (c.numbered9.ensures ∙ ap (λ (k : ℕ). numbers_of (refused k)) c.before.refusal-number.ensures)
 
-pub numbers-spec : {M : Type 1} → statement M
-numbers-spec =
+pub numbers_spec : {M : Type 1} → statement M
+numbers_spec =
     tie.close
     (tie.spec
     enum_told

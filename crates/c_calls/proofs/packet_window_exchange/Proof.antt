@@ -25,6 +25,6 @@ returns c =
     let t = c.before.before.before.exchange in
     in-numbers _ _ _ t.result c.in-numbers.result _ _ c.in-numbers.ensures t.ensures
 
-pub packet-window-exchange-spec : {M : Type 1} → statement M
-packet-window-exchange-spec =
+pub packet_window_exchange_spec : {M : Type 1} → statement M
+packet_window_exchange_spec =
     tie.close (tie.spec exchange-requires in-numbers-requires same_length returns)

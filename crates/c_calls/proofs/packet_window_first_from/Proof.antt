@@ -21,6 +21,6 @@ returns c =
     let t = c.before.first_from in
     in-numbers _ _ _ t.result c.in-numbers.result _ _ c.in-numbers.ensures t.ensures
 
-pub packet-window-first-from-spec : {M : Type 1} → statement M
-packet-window-first-from-spec =
+pub packet_window_first_from_spec : {M : Type 1} → statement M
+packet_window_first_from_spec =
     tie.close (tie.spec first-from-requires in-numbers-requires returns)

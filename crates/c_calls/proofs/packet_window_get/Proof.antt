@@ -21,5 +21,5 @@ returns c =
     let t = c.before.get in
     in-numbers _ _ _ t.result c.in-numbers.result _ _ c.in-numbers.ensures t.ensures
 
-pub packet-window-get-spec : {M : Type 1} → statement M
-packet-window-get-spec = tie.close (tie.spec get-requires in-numbers-requires returns)
+pub packet_window_get_spec : {M : Type 1} → statement M
+packet_window_get_spec = tie.close (tie.spec get-requires in-numbers-requires returns)

@@ -41,8 +41,8 @@ returns c =
     let t = c.before.before.before.before.before.before.before.before.before.before.before.insert in
     in-numbers _ _ _ t.result c.in-numbers.result _ _ c.in-numbers.ensures t.ensures
 
-pub packet-window-insert-spec : {M : Type 1} → statement M
-packet-window-insert-spec =
+pub packet_window_insert_spec : {M : Type 1} → statement M
+packet_window_insert_spec =
     tie.close
     (tie.spec
     insert-requires

@@ -21,5 +21,5 @@ returns c =
     let t = c.before.iter in
     in-numbers _ _ _ t.result c.in-numbers.result _ _ c.in-numbers.ensures t.ensures
 
-pub packet-window-iter-spec : {M : Type 1} → statement M
-packet-window-iter-spec = tie.close (tie.spec iter-requires in-numbers-requires returns)
+pub packet_window_iter_spec : {M : Type 1} → statement M
+packet_window_iter_spec = tie.close (tie.spec iter-requires in-numbers-requires returns)

@@ -37,8 +37,8 @@ returns c =
     let t = c.before.before.before.before.before.before.before.before.before.new in
     creates c.created.result t.result _ _ _ _ _ c.created.ensures t.ensures
 
-pub packet-window-new-spec : {M : Type 1} → statement M
-packet-window-new-spec =
+pub packet_window_new_spec : {M : Type 1} → statement M
+packet_window_new_spec =
     tie.close
     (tie.spec
     new-requires

@@ -21,6 +21,6 @@ returns c =
     let t = c.before.successor_after in
     in-numbers _ _ _ t.result c.in-numbers.result _ _ c.in-numbers.ensures t.ensures
 
-pub packet-window-successor-after-spec : {M : Type 1} → statement M
-packet-window-successor-after-spec =
+pub packet_window_successor_after_spec : {M : Type 1} → statement M
+packet_window_successor_after_spec =
     tie.close (tie.spec successor-after-requires in-numbers-requires returns)

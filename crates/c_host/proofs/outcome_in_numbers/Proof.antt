@@ -16,5 +16,5 @@ returns c =
     = λ a. record { answer = a; count = o.count } in
     ap with c.numbers.ensures
 
-pub outcome-in-numbers-spec : {M : Type 1} → statement M
-outcome-in-numbers-spec = tie.close (tie.spec numbers-requires returns)
+pub outcome_in_numbers_spec : {M : Type 1} → statement M
+outcome_in_numbers_spec = tie.close (tie.spec numbers-requires returns)

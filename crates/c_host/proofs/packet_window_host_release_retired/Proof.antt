@@ -259,9 +259,9 @@ meets {𝓤 = 𝓤} 𝓛 at_mem run 𝓣 known known-told =
     walk_Meets 𝓛 f.ended stayed (goings 𝓛 at_mem run) (f.clauses 𝓛 at_mem run) (WpFn 𝓤 𝓛.H 𝓣.C 𝓣.Λ code.function)
     (WpFn-mono 𝓤 𝓛.H 𝓛.laws 𝓣 code.function) (walks 𝓛 at_mem run 𝓣.C 𝓣.Λ (fm_of 𝓤 𝓛.H 𝓛.laws 𝓣) known known-told)
 
-pub packet-window-host-release-retired-spec : {M : Type 1} → stated.statement M
+pub packet_window_host_release_retired_spec : {M : Type 1} → stated.statement M
 unfolding code.routine tables_of
-packet-window-host-release-retired-spec 𝓤 𝓛 𝓜 𝓡 =
+packet_window_host_release_retired_spec 𝓤 𝓛 𝓜 𝓡 =
     entered 𝓤 𝓛.H (triple_of 𝓛 f.signature (f.spec 𝓛 𝓜.mem 𝓡.run))
     (tables 𝓤 𝓛.H 𝓜 𝓡 code.env).C (tables 𝓤 𝓛.H 𝓜 𝓡 code.env).Λ #c-host·packet-window-host-release-retired code.function (code.unfolded 𝓤 𝓛.H 𝓜 𝓡)
     (meets 𝓛 𝓜.mem 𝓡.run (tables_of 𝓤 𝓛.H 𝓜 (tables 𝓤 𝓛.H 𝓜 𝓡 code.env))

@@ -18,5 +18,5 @@ returns c =
     let t = c.before.before.before.read_losses in
     in-numbers _ t.result c.in-numbers.result _ c.in-numbers.ensures t.ensures
 
-pub packet-window-read-losses-spec : {M : Type 1} → statement M
-packet-window-read-losses-spec = tie.close (tie.spec read-losses-requires in-numbers-requires same_length returns)
+pub packet_window_read_losses_spec : {M : Type 1} → statement M
+packet_window_read_losses_spec = tie.close (tie.spec read-losses-requires in-numbers-requires same_length returns)

@@ -18,5 +18,5 @@ returns c =
     let t = c.before.before.before.write_losses in
     in-numbers _ t.result c.in-numbers.result _ c.in-numbers.ensures t.ensures
 
-pub packet-window-write-losses-spec : {M : Type 1} → statement M
-packet-window-write-losses-spec = tie.close (tie.spec write-losses-requires in-numbers-requires same_length returns)
+pub packet_window_write_losses_spec : {M : Type 1} → statement M
+packet_window_write_losses_spec = tie.close (tie.spec write-losses-requires in-numbers-requires same_length returns)

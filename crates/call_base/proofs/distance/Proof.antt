@@ -15,5 +15,5 @@ returns : tie.Need-returns
 unfolding distance
 returns c = omega (arith, c.wrapping-sub-u32.ensures)
 
-pub distance-spec : {M : Type 1} → statement M
-distance-spec = tie.close (tie.spec wrapping-sub-u32-requires returns)
+pub distance_spec : {M : Type 1} → statement M
+distance_spec = tie.close (tie.spec wrapping-sub-u32-requires returns)

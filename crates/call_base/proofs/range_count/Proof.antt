@@ -20,5 +20,5 @@ returns : tie.Need-returns
 unfolding range_count_of
 returns c = omega (arith, c.distance.ensures)
 
-pub range-count-spec : {M : Type 1} → statement M
-range-count-spec = tie.close (tie.spec distance-requires add-result returns)
+pub range_count_spec : {M : Type 1} → statement M
+range_count_spec = tie.close (tie.spec distance-requires add-result returns)

@@ -17,5 +17,5 @@ sub-result c = let s = c.before.before.before.before.args in omega (arith, c.pag
 returns-2 : tie.Need-returns-2
 returns-2 c = rw (ne_eqb _ 0 c.before.if1.false) (ap (λ (x : ℕ). 1 - x) c.page-retired.ensures)
 
-pub reachable-spec : {M : Type 1} → statement M
-reachable-spec = tie.close (tie.spec returns page-retired-requires sub-result returns-2)
+pub reachable_spec : {M : Type 1} → statement M
+reachable_spec = tie.close (tie.spec returns page-retired-requires sub-result returns-2)

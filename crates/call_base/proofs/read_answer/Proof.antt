@@ -21,5 +21,5 @@ returns c = search rules
 returns-2 : tie.Need-returns-2
 returns-2 c = ap read_answer_of (sym c.before.read.given.1)
 
-pub read-answer-spec : {M : Type 1} → statement M
-read-answer-spec = tie.close (tie.spec enum_told enum-known-read returns returns-2)
+pub read_answer_spec : {M : Type 1} → statement M
+read_answer_spec = tie.close (tie.spec enum_told enum-known-read returns returns-2)

@@ -48,8 +48,8 @@ returns-2 c =
     checked-meets check (found m.before) m.before.admits.result m.before.admits.ensures m.match.keys2 _ _ c.reply.ensures (λ q. c.before.checked.ensures.unsound)
     c.before.checked.ensures.sound
 
-pub check-spec : {M : Type 1} → statement M
-check-spec =
+pub check_spec : {M : Type 1} → statement M
+check_spec =
     tie.close
     (tie.spec
     admits-requires

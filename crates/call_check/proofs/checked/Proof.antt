@@ -27,5 +27,5 @@ returns-3 c =
     let e : tie.Else1 = c.before.before in
     current-answer _ _ _ _ _ _ e.before.sound.ensures e.if1.false _ c.before.is-current.ensures c.if2.false
 
-pub checked-spec : {M : Type 1} → statement M
-checked-spec = tie.close (tie.spec sound-requires returns is-current-requires returns-2 returns-3)
+pub checked_spec : {M : Type 1} → statement M
+checked_spec = tie.close (tie.spec sound-requires returns is-current-requires returns-2 returns-3)

@@ -44,8 +44,8 @@ returns-3 c =
     _ h.header-sound.ensures _ c.before.before.blocks-sound.ensures
     c.before.before.before.if1.false c.before.if2.false _ c.pages-sound.ensures
 
-pub sound-spec : {M : Type 1} → statement M
-sound-spec =
+pub sound_spec : {M : Type 1} → statement M
+sound_spec =
     tie.close
     (tie.spec
     header-sound-requires

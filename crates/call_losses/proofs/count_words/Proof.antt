@@ -81,8 +81,8 @@ returns c =
     let lost = seen_lost a.w a.sequences.now a.pages.now a.blocks.now a.first in
     ap (λ (x : ℕ). l.loop.total + x) c.run-count2.ensures ∙ count-end lost a.first a.count l.loop.run l.loop.total (rw e at l.loop.invariant.1)
 
-pub count-words-spec : {M : Type 1} → statement M
-count-words-spec =
+pub count_words_spec : {M : Type 1} → statement M
+count_words_spec =
     tie.close
     (tie.spec
     invariant-loop

@@ -101,8 +101,8 @@ returns c =
     let f = filled-over _ _ _ _ (wrote-end (lost l) _ _ _ _ _ _ _ (ended a) (start_of l).requires.2) in
     record { number = put.0 ∙ f.0; list = put.1 ∙ f.1 }
 
-pub put-losses-spec : {M : Type 1} → statement M
-put-losses-spec =
+pub put_losses_spec : {M : Type 1} → statement M
+put_losses_spec =
     tie.close
     (tie.spec
     invariant-loop

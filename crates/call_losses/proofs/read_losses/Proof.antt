@@ -115,8 +115,8 @@ returns-4 c =
     read_done s.first s.last s.words.now s.w (lent a) s.lost.now a.admits.result a.admits.ensures m.match.keys2 k.range-count.result k.range-count.ensures _ _ _
     (omega (arith, i.before.if1.false)) (sym i.is-loss-list.ensures ∙ not-false i.is-loss-list.result e.if2.false) p.put-flags.ensures c.reply.ensures
 
-pub read-losses-spec : {M : Type 1} → statement M
-read-losses-spec =
+pub read_losses_spec : {M : Type 1} → statement M
+read_losses_spec =
     tie.close
     (tie.spec
     admits-requires

@@ -130,8 +130,8 @@ returns-3 c =
     write_done s.first s.last s.w (lent a) k.range-count.result k.range-count.ensures s.words.now a.admits.result a.admits.ensures m.match.keys2 _ _ _
     (room j) p.put-losses.ensures c.reply.ensures
 
-pub write-losses-spec : {M : Type 1} → statement M
-write-losses-spec =
+pub write_losses_spec : {M : Type 1} → statement M
+write_losses_spec =
     tie.close
     (tie.spec
     admits-requires

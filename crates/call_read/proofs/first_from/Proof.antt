@@ -53,8 +53,8 @@ returns-2 c =
     (λ ok. c.before.find-round.ensures.gives s.values.now ok
     ∙ from_is s.w (memory s.sequences.now s.values.now s.pages.now s.blocks.now) s.sequence c.before.before.wrapping-sub-u32.result c.before.before.wrapping-sub-u32.ensures)
 
-pub first-from-spec : {M : Type 1} → statement M
-first-from-spec =
+pub first_from_spec : {M : Type 1} → statement M
+first_from_spec =
     tie.close
     (tie.spec
     admits-requires

@@ -48,8 +48,8 @@ returns-2 c =
     asked-meets (iter s.cell) (found m.before) m.before.admits.result m.before.admits.ensures m.match.keys2 _ _ c.reply.ensures refl
     c.before.next-pair.ensures
 
-pub iter-spec : {M : Type 1} → statement M
-iter-spec =
+pub iter_spec : {M : Type 1} → statement M
+iter_spec =
     tie.close
     (tie.spec
     admits-requires

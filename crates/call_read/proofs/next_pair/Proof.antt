@@ -75,8 +75,8 @@ returns-3 c =
     λ ok. iter-some (decode s.w (found k)) s.cell r.result.cell k.capacity.result r.result.reads (k.capacity.ensures ∙ capacity-is s.w (found k)) (r.ensures.gives s.sequences.now s.values.now ok) r.ensures.counted (omega (arith, e.if2.false)) _
     (pair-at s.w (found k) r.result.cell (next-lt e))
 
-pub next-pair-spec : {M : Type 1} → statement M
-next-pair-spec =
+pub next_pair_spec : {M : Type 1} → statement M
+next_pair_spec =
     tie.close
     (tie.spec
     capacity-requires

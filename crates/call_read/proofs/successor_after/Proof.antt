@@ -49,8 +49,8 @@ returns-2 c =
     asked-meets (successor_after s.sequence) (found m.before) m.before.admits.result m.before.admits.ensures m.match.keys2 _ _ c.reply.ensures refl
     (λ ok. c.before.find-round.ensures.gives s.values.now ok ∙ after_is s.w (memory s.sequences.now s.values.now s.pages.now s.blocks.now) s.sequence)
 
-pub successor-after-spec : {M : Type 1} → statement M
-successor-after-spec =
+pub successor_after_spec : {M : Type 1} → statement M
+successor_after_spec =
     tie.close
     (tie.spec
     admits-requires

@@ -65,8 +65,8 @@ returns-2 c =
     ∙ get-read s.w s.sequences.now s.values.now s.pages.now s.blocks.now s.sequence p.position.result r.result p.position.ensures r.ensures e.if1.false _ _ _ _
     c.before.before.before.before.page-words.ensures c.before.before.before.page-cells.ensures c.before.before.page-cells2.ensures c.before.get.ensures ok
 
-pub value-of-spec : {M : Type 1} → statement M
-value-of-spec =
+pub value_of_spec : {M : Type 1} → statement M
+value_of_spec =
     tie.close
     (tie.spec
     cast-n

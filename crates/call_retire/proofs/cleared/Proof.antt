@@ -17,5 +17,5 @@ returns c =
     let step : AdaptiveReceiverPacketWindow → Step = λ w. record { window = w; answer = given.answer } in
     ap step c.after-clear.ensures
 
-pub cleared-spec : {M : Type 1} → statement M
-cleared-spec = tie.close (tie.spec after-clear-requires returns)
+pub cleared_spec : {M : Type 1} → statement M
+cleared_spec = tie.close (tie.spec after-clear-requires returns)

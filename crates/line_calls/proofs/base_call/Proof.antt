@@ -72,8 +72,8 @@ returns-3 c =
     let k = c.before.before.before.before.before.before.before.before.before.before.before.before.before.before.before.before.match.rest in
     made-same _ _ _ _ _ _ _ (is-range _ _ k.0.1 k.1) c.before.before.before.before.before.before.before.before.before.before.range-call.ensures
 
-pub base-call-spec : {M : Type 1} → statement M
-base-call-spec =
+pub base_call_spec : {M : Type 1} → statement M
+base_call_spec =
     tie.close
     (tie.spec
     set-base-requires

@@ -232,8 +232,8 @@ returns-8 c =
     (is_base _ _ k.0.0.0.0.0.0.1 k.0.0.0.0.0.1 k.0.0.0.0.1 k.0.0.0.1 k.0.0.1 k.0.1 k.1)
     c.before.before.before.before.before.before.before.before.before.before.base-call.ensures
 
-pub call-spec : {M : Type 1} → statement M
-call-spec =
+pub call_spec : {M : Type 1} → statement M
+call_spec =
     tie.close
     (tie.spec
     insert-requires

@@ -136,8 +136,8 @@ returns-5 c =
     let k = c.match.rest in
     none_made _ _ _ (is_none _ _ k.0.0.0.1 k.0.0.1 k.0.1 k.1)
 
-pub range-call-spec : {M : Type 1} → statement M
-range-call-spec =
+pub range_call_spec : {M : Type 1} → statement M
+range_call_spec =
     tie.close
     (tie.spec
     remove-range-requires

@@ -41,7 +41,7 @@ returns c =
     let e : c.before.loop.i ≡ length l = omega arith in
     omega (arith, none_left c.before.before.args.byte _ l e)
 
-pub count-byte-spec : {M : Type 1} → statement M
-count-byte-spec =
+pub count_byte_spec : {M : Type 1} → statement M
+count_byte_spec =
     tie.close
     (tie.spec invariant-loop decreases-loop loop-holds shared-slice-read-if1 add-count add-i loop-less loop-again returns)

@@ -31,8 +31,8 @@ returns-2 c =
     let whole : n - 0 ≡ n = omega arith in
     rw (le-ltb _ _ c.before.before.if1.false) (rw whole at c.fault-of-bytes.ensures)
 
-pub fault-of-spec : {M : Type 1} → statement M
-fault-of-spec =
+pub fault_of_spec : {M : Type 1} → statement M
+fault_of_spec =
     tie.close
     (tie.spec
     returns

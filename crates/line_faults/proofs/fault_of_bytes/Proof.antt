@@ -43,8 +43,8 @@ returns-5 c =
     ∙ laws.of-call t.before.before.before.before.before.before.before.before.args.line.now (omega arith) (omega arith) (omega arith)
     (sym t.count-byte3.ensures ∙ c.before.if4.false ∙ t.before.before.letter-count.ensures)
 
-pub fault-of-bytes-spec : {M : Type 1} → statement M
-fault-of-bytes-spec =
+pub fault_of_bytes_spec : {M : Type 1} → statement M
+fault_of_bytes_spec =
     tie.close
     (tie.spec
     count-byte-requires

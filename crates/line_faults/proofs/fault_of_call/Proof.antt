@@ -34,7 +34,7 @@ returns-4 c =
     let t = c.before.before.before.before.before in
     not-larger _ _ _ _ c.before.before.if1.false c.if2.false ∙ ap fault_of_parsed (sym (ap line_answer t.parsed.given.1) ∙ t.before.before.parse.ensures)
 
-pub fault-of-call-spec : {M : Type 1} → statement M
-fault-of-call-spec =
+pub fault_of_call_spec : {M : Type 1} → statement M
+fault_of_call_spec =
     tie.close
     (tie.spec parse-requires enum-known-parsed enum_told returns returns-2 returns-3 returns-4)

@@ -35,8 +35,8 @@ returns-4 c =
     let t = c.before.before in
     c.field-count2.ensures ∙ sym (ap count_or4 (letter-tab _ t.before.before.before.if1.false t.before.before.if2.false t.if3.false))
 
-pub letter-count-spec : {M : Type 1} → statement M
-letter-count-spec =
+pub letter_count_spec : {M : Type 1} → statement M
+letter_count_spec =
     tie.close
     (tie.spec
     returns

@@ -27,6 +27,6 @@ has-room-requires c κs = search rules
 returns-3 : tie.Need-returns-3
 returns-3 c = as-buffer _ _ _ _ _ _ c.before.before.if1.false c.before.if2.false c.has_room.ensures
 
-pub has-line-room-spec : {M : Type 1} → statement M
-has-line-room-spec =
+pub has_line_room_spec : {M : Type 1} → statement M
+has_line_room_spec =
     tie.close (tie.spec returns returns-2 mul-has-room add-has-room has-room-requires returns-3)

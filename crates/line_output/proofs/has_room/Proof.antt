@@ -10,5 +10,5 @@ returns c = no_start _ _ _ c.if1.true
 returns-2 : tie.Need-returns-2
 returns-2 c = room-from _ _ _ c.if1.false
 
-pub has-room-spec : {M : Type 1} → statement M
-has-room-spec = tie.close (tie.spec returns returns-2)
+pub has_room_spec : {M : Type 1} → statement M
+has_room_spec = tie.close (tie.spec returns returns-2)

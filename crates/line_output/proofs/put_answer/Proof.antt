@@ -137,8 +137,8 @@ returns-9 : tie.Need-returns-9
 unfolding answer_bytes
 returns-9 c = put-told _ _ _ _ _ _ _ c.before.before.put-marked2.ensures c.before.before.before.before.before.before.answer6.given.1 (ap (λ (n : ℕ). 33 ∷ digits n) c.before.before.before.refusal-number.ensures)
 
-pub put-answer-spec : {M : Type 1} → statement M
-put-answer-spec =
+pub put_answer_spec : {M : Type 1} → statement M
+put_answer_spec =
     tie.close
     (tie.spec
     enum_told

@@ -50,8 +50,8 @@ returns c =
     (put_then _ _ _ _ _ _ _ _ b.put-marked2.ensures
     (put_then _ _ _ _ _ _ _ _ d.put-marked3.ensures (put_count _ _ _ _ _ _ n.demotions.ensures e.put-marked4.ensures))))
 
-pub put-counts-spec : {M : Type 1} → statement M
-put-counts-spec =
+pub put_counts_spec : {M : Type 1} → statement M
+put_counts_spec =
     tie.close
     (tie.spec
     cast-put-marked

@@ -35,8 +35,8 @@ returns c =
     (put_then _ _ _ _ _ _ _ _ c.before.before.before.before.before.before.before.before.before.before.put-byte2.ensures
     (put_then _ _ _ _ _ _ _ _ c.before.before.before.before.before.before.put-answer.ensures c.before.before.put-counts.ensures))
 
-pub put-head-spec : {M : Type 1} → statement M
-put-head-spec =
+pub put_head_spec : {M : Type 1} → statement M
+put_head_spec =
     tie.close
     (tie.spec
     put-byte-requires

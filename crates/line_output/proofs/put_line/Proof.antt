@@ -42,8 +42,8 @@ returns-2 c =
     with-room _ _ _ _ _ _ (tested _ _ c.before.before.before.before.before.before.before.before.before.before.before.before.before.has-line-room.ensures c.before.before.before.before.before.before.before.before.before.before.before.before.if1.false)
     (put_then _ _ _ _ _ _ _ _ c.before.before.before.before.before.before.before.before.before.before.put-head.ensures (put_then _ _ _ _ _ _ _ _ c.before.before.before.before.before.before.put-values.ensures c.before.before.put_byte.ensures))
 
-pub put-line-spec : {M : Type 1} → statement M
-put-line-spec =
+pub put_line_spec : {M : Type 1} → statement M
+put_line_spec =
     tie.close
     (tie.spec
     has-line-room-requires

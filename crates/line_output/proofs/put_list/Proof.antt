@@ -58,8 +58,8 @@ returns-3 c =
     (put_then _ _ _ _ _ _ _ _ (list-head _ _ _ _ _ _ _ (room-is _ _ _ _ _ (tested _ _ t l)).listed c.before.before.before.before.before.before.before.before.before.before.put-head.ensures)
     (put_then _ _ _ _ _ _ _ _ c.before.before.before.before.before.before.put-pairs.ensures c.before.before.put_byte.ensures))
 
-pub put-list-spec : {M : Type 1} → statement M
-put-list-spec =
+pub put_list_spec : {M : Type 1} → statement M
+put_list_spec =
     tie.close
     (tie.spec
     has-line-room-requires

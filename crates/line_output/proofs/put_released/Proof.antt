@@ -23,6 +23,6 @@ returns : tie.Need-returns
 unfolding answer_bytes
 returns c = put_then _ _ _ _ _ _ _ _ c.before.before.before.before.before.before.put-number.ensures c.before.before.put-marked.ensures
 
-pub put-released-spec : {M : Type 1} → statement M
-put-released-spec =
+pub put_released_spec : {M : Type 1} → statement M
+put_released_spec =
     tie.close (tie.spec put-number-requires put-marked-requires same_length returns)

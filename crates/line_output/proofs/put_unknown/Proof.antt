@@ -34,8 +34,8 @@ returns-2 : tie.Need-returns-2
 returns-2 c =
     with-room _ _ _ _ _ _ (tested _ _ c.before.before.before.before.before.before.before.before.before.has_room.ensures c.before.before.before.before.before.before.before.before.if1.false) (put_then _ _ _ _ _ _ _ _ c.before.before.before.before.before.before.put_byte.ensures c.before.before.put-byte2.ensures)
 
-pub put-unknown-spec : {M : Type 1} → statement M
-put-unknown-spec =
+pub put_unknown_spec : {M : Type 1} → statement M
+put_unknown_spec =
     tie.close
     (tie.spec
     has-room-requires

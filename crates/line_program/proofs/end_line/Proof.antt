@@ -23,6 +23,6 @@ returns c =
       record { answers = t.1; notes = c.note.ensures; begins = refl; places = c.before.before.note-arg.given.0; room = t.0 },
     )
 
-pub end-line-spec : {M : Type 1} → statement M
-end-line-spec =
+pub end_line_spec : {M : Type 1} → statement M
+end_line_spec =
     tie.close (tie.spec answer-line-requires element-copy-out-note note-requires returns)

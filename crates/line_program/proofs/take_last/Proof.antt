@@ -25,5 +25,5 @@ returns-2 c =
     let u = state_of s.args.p.window (memory s.args.sequences.now s.args.values.now s.args.pages.now s.args.blocks.now) in
     λ b h. last-answered u s.args.p _ _ _ _ _ _ b c.before.before.before.before.before.before.before.before.before.if1.false h c.end_line.ensures.1
 
-pub take-last-spec : {M : Type 1} → statement M
-take-last-spec = tie.close (tie.spec returns end-line-requires returns-2)
+pub take_last_spec : {M : Type 1} → statement M
+take_last_spec = tie.close (tie.spec returns end-line-requires returns-2)

@@ -63,8 +63,8 @@ returns-2 c =
       ),
     )
 
-pub take-line-spec : {M : Type 1} → statement M
-take-line-spec =
+pub take_line_spec : {M : Type 1} → statement M
+take_line_spec =
     tie.close
     (tie.spec
     next-byte-requires

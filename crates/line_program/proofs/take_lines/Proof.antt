@@ -49,7 +49,7 @@ returns-2 c =
     let i = c.before.before.before.before.loop.invariant in
     (i.takes, (stops-full _ _ _ _ _ _ _ _ _ i c.if2.true, i.kept))
 
-pub take-lines-spec : {M : Type 1} → statement M
-take-lines-spec =
+pub take_lines_spec : {M : Type 1} → statement M
+take_lines_spec =
     tie.close
     (tie.spec invariant-loop decreases-loop loop-holds take-line-requires loop-less loop-again returns returns-2)

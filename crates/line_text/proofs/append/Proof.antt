@@ -71,8 +71,8 @@ returns-3 c =
     let i = c.before.loop.invariant in
     record { kept = λ h. all-put _ c.before.loop.i _ _ _ _ (omega (arith, i.0, c.loop-test.false)) i.1.puts; long = λ h. absurd (omega arith) }
 
-pub append-spec : {M : Type 1} → statement M
-append-spec =
+pub append_spec : {M : Type 1} → statement M
+append_spec =
     tie.close
     (tie.spec
     invariant-loop

@@ -102,8 +102,8 @@ returns-7 c =
     let p : tie.At-loop invariant-loop decreases-loop = c.before in
     sym (laws.ends c.before.before.before.before.before.before.args.bytes.now p.loop.number p.loop.i p.loop.invariant.1 (omega arith)) ∙ p.loop.invariant.2
 
-pub field-spec : {M : Type 1} → statement M
-field-spec =
+pub field_spec : {M : Type 1} → statement M
+field_spec =
     tie.close
     (tie.spec
     invariant-loop

@@ -85,7 +85,7 @@ returns-11 : tie.Need-returns-11
 unfolding fields_of_letter among good
 returns-11 c = within 1 113 3 tt c.before.before.before.before.before.before.before.args.letter c.before.if5.false c.if6.true (rest c.before.before.before.before.before.before)
 
-pub field-count-spec : {M : Type 1} → statement M
-field-count-spec =
+pub field_count_spec : {M : Type 1} → statement M
+field_count_spec =
     tie.close
     (tie.spec returns returns-2 returns-3 returns-4 returns-5 returns-6 returns-7 returns-8 returns-9 returns-10 returns-11)

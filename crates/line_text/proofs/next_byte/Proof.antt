@@ -52,8 +52,8 @@ returns-2 c = record {
   found = λ l. absurd (omega arith);
 }
 
-pub next-byte-spec : {M : Type 1} → statement M
-next-byte-spec =
+pub next_byte_spec : {M : Type 1} → statement M
+next_byte_spec =
     tie.close
     (tie.spec
     invariant-loop

@@ -129,8 +129,8 @@ array-read-t32 c = search rules
 returns-7 : tie.Need-returns-7 invariant-loop decreases-loop
 returns-7 c = laws.says _ _ _ _ _ _ c.before.before.loop.invariant c.before.loop-test.false c.if5.false
 
-pub parse-spec : {M : Type 1} → statement M
-parse-spec =
+pub parse_spec : {M : Type 1} → statement M
+parse_spec =
     tie.close
     (tie.spec
     invariant-loop

@@ -23,5 +23,5 @@ returns-2 c =
     let l : 3 ≤ c.before.before.args.length = omega arith in
     rw (le-ltb _ _ l) (ap (λ (x : ℕ). 2147483648 + x) c.before.sequence-at.ensures)
 
-pub first-word-spec : {M : Type 1} → statement M
-first-word-spec = tie.close (tie.spec sequence-at-requires returns add-result returns-2)
+pub first_word_spec : {M : Type 1} → statement M
+first_word_spec = tie.close (tie.spec sequence-at-requires returns add-result returns-2)

@@ -54,8 +54,8 @@ same-length-2 c = search rules
 returns-3 : tie.Need-returns-3
 returns-3 c = put_both _ _ _ _ _ _ _ (omega arith) c.before.before.first_word.ensures c.sequence-at.ensures
 
-pub put-run-spec : {M : Type 1} → statement M
-put-run-spec =
+pub put_run_spec : {M : Type 1} → statement M
+put_run_spec =
     tie.close
     (tie.spec
     returns

@@ -10,5 +10,5 @@ returns c = run-count-small _ c.if1.true
 returns-2 : tie.Need-returns-2
 returns-2 c = run-count-large c.before.args.length (omega arith)
 
-pub run-count-spec : {M : Type 1} → statement M
-run-count-spec = tie.close (tie.spec returns returns-2)
+pub run_count_spec : {M : Type 1} → statement M
+run_count_spec = tie.close (tie.spec returns returns-2)

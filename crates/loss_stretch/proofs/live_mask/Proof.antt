@@ -61,8 +61,8 @@ returns-2 c =
     row-reached s.w s.sequences.now s.pages.now s.blocks.now s.sequence p.position.result r.result p.position.ensures r.ensures e.if1.false _ _ _
     c.before.before.before.page-words.ensures c.before.before.page-cells.ensures c.page-mask.ensures
 
-pub live-mask-spec : {M : Type 1} → statement M
-live-mask-spec =
+pub live_mask_spec : {M : Type 1} → statement M
+live_mask_spec =
     tie.close
     (tie.spec
     position-requires

@@ -68,8 +68,8 @@ returns-2 c =
     stretch a.w a.sequences.now a.pages.now a.blocks.now a.first a.count a.d at.result row.result r.row-end.result (omega arith) at.ensures row.ensures r.row-end.ensures
     _ _ r.before.bit.ensures (omega (arith, ends r)) (omega arith) (omega arith)
 
-pub next-stretch-spec : {M : Type 1} → statement M
-next-stretch-spec =
+pub next_stretch_spec : {M : Type 1} → statement M
+next_stretch_spec =
     tie.close
     (tie.spec
     sequence-at-requires

@@ -12,5 +12,5 @@ live-mask-requires c κs = search rules
 returns-2 : tie.Need-returns-2
 returns-2 c = search rules
 
-pub row-at-spec : {M : Type 1} → statement M
-row-at-spec = tie.close (tie.spec returns live-mask-requires returns-2)
+pub row_at_spec : {M : Type 1} → statement M
+row_at_spec = tie.close (tie.spec returns live-mask-requires returns-2)

@@ -20,5 +20,5 @@ lowest-requires-2 c κs = search rules
 returns-2 : tie.Need-returns-2
 returns-2 c = rw (ne_eqb _ 1 (λ q. c.before.if1.false (c.before.before.bit.ensures ∙ q))) c.lowest2.ensures
 
-pub row-end-spec : {M : Type 1} → statement M
-row-end-spec = tie.close (tie.spec bit-requires lowest-requires returns lowest-requires-2 returns-2)
+pub row_end_spec : {M : Type 1} → statement M
+row_end_spec = tie.close (tie.spec bit-requires lowest-requires returns lowest-requires-2 returns-2)

@@ -33,7 +33,7 @@ part-result-end c = search rules
 returns : tie.Need-returns
 returns c = lent _ _
 
-pub page-cells-spec : {M : Type 1} → statement M
-page-cells-spec =
+pub page_cells_spec : {M : Type 1} → statement M
+page_cells_spec =
     tie.close
     (tie.spec mul-from add-to mul-result sub-result part-result-start part-result-end returns)

@@ -36,8 +36,8 @@ returns : tie.Need-returns
 unfolding words_at
 returns c = rw add-zero
 
-pub page-words-spec : {M : Type 1} → statement M
-page-words-spec =
+pub page_words_spec : {M : Type 1} → statement M
+page_words_spec =
     tie.close
     (tie.spec
     mul-a

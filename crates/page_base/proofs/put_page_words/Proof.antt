@@ -41,8 +41,8 @@ returns : tie.Need-returns
 unfolding with_words
 returns c = simp unary_clauses
 
-pub put-page-words-spec : {M : Type 1} → statement M
-put-page-words-spec =
+pub put_page_words_spec : {M : Type 1} → statement M
+put_page_words_spec =
     tie.close
     (tie.spec
     mul-a

@@ -36,5 +36,5 @@ returns-4 c =
     cell-dense _ _ _ _ _ _ (wire-yes _ _ c.before.before.before.before.is-wire-number.ensures (not-false _ c.before.before.before.if1.false))
     _ c.before.before.position.ensures c.before.if2.false c.if3.false (omega arith) (omega arith)
 
-pub cell-sound-spec : {M : Type 1} → statement M
-cell-sound-spec = tie.close (tie.spec is-wire-number-requires returns position-requires returns-2 returns-3 cast-result returns-4)
+pub cell_sound_spec : {M : Type 1} → statement M
+cell_sound_spec = tie.close (tie.spec is-wire-number-requires returns position-requires returns-2 returns-3 cast-result returns-4)

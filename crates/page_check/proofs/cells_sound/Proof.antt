@@ -100,8 +100,8 @@ loop-again c =
 returns-3 : tie.Need-returns-3 invariant-loop decreases-loop
 returns-3 c = passed-ends _ _ _ _ _ _ _ c.before.loop.invariant c.loop-test.false (omega arith)
 
-pub cells-sound-spec : {M : Type 1} → statement M
-cells-sound-spec =
+pub cells_sound_spec : {M : Type 1} → statement M
+cells_sound_spec =
     tie.close
     (tie.spec
     invariant-loop

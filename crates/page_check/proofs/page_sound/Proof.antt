@@ -43,7 +43,7 @@ returns-6 c =
           (λ k. ⊎_elim (λ t. t.1.left) (λ t. absurd (t.left k)) c.before.if5.branch) c.cells-sound.ensures;
     }
 
-pub page-sound-spec : {M : Type 1} → statement M
-page-sound-spec =
+pub page_sound_spec : {M : Type 1} → statement M
+page_sound_spec =
     tie.close
     (tie.spec returns returns-2 returns-3 returns-4 returns-5 cells-sound-requires returns-6)

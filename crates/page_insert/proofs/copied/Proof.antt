@@ -53,8 +53,8 @@ loop-again c = (search rules, simp length-set (search rules), same_more c.before
 returns : tie.Need-returns invariant-loop decreases-loop
 returns c = ext_get_or 0 _ _ (omega arith) (λ k l. c.before.loop.invariant.2 k (omega arith))
 
-pub copied-spec : {M : Type 1} → statement M
-copied-spec =
+pub copied_spec : {M : Type 1} → statement M
+copied_spec =
     tie.close
     (tie.spec
     invariant-loop

@@ -16,5 +16,5 @@ lowest-requires c κs = search rules
 returns : tie.Need-returns
 returns c = c.lowest.ensures ∙ free-code _ (omega arith)
 
-pub free-cell-spec : {M : Type 1} → statement M
-free-cell-spec = tie.close (tie.spec lowest-requires returns)
+pub free_cell_spec : {M : Type 1} → statement M
+free_cell_spec = tie.close (tie.spec lowest-requires returns)

@@ -54,8 +54,8 @@ returns-2 c =
     let b = c.before.before.before.before.before.before.before in
     record { gives = λ ok. c.before.before.before.before.insert-new.ensures.gives ok ∙ page-new _ _ _ _ _ (b.before.slot_at.ensures.cell _ ok) b.if1.false }
 
-pub insert-spec : {M : Type 1} → statement M
-insert-spec =
+pub insert_spec : {M : Type 1} → statement M
+insert_spec =
     tie.close
     (tie.spec
     cast-slot

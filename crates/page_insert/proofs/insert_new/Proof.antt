@@ -107,8 +107,8 @@ returns-5 c =
           (c.before.before.before.before.put3.ensures ∙ ap (λ (p : Page). put_cell p 2 (s.args.sequence % 64) s.args.sequence s.args.value) (b.promote.ensures.after ok (b.before.before.before.if4.false ∙ b.before.before.before.before.span.ensures)));
     }
 
-pub insert-new-spec : {M : Type 1} → statement M
-insert-new-spec =
+pub insert_new_spec : {M : Type 1} → statement M
+insert_new_spec =
     tie.close
     (tie.spec
     cast-slot

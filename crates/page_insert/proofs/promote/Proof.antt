@@ -40,8 +40,8 @@ returns c =
       after = λ ok full. promoted-lists _ _ _ _ _ _ _ _ s.requires.2 s.requires.0 s.requires.1 b.before.before.before.before.before.before.copied.ensures b.before.before.before.before.copied2.ensures b.spread.ensures c.before.before.spread2.ensures ok full;
     }
 
-pub promote-spec : {M : Type 1} → statement M
-promote-spec =
+pub promote_spec : {M : Type 1} → statement M
+promote_spec =
     tie.close
     (tie.spec
     copied-requires

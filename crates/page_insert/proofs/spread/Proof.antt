@@ -70,8 +70,8 @@ same_length c = search rules
 returns : tie.Need-returns invariant-loop decreases-loop
 returns c = let e : c.before.loop.c ≡ c.before.before.args.n = omega arith in rw (← e) c.before.loop.invariant.2
 
-pub spread-spec : {M : Type 1} → statement M
-spread-spec =
+pub spread_spec : {M : Type 1} → statement M
+spread_spec =
     tie.close
     (tie.spec
     invariant-loop

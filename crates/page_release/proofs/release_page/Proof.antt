@@ -81,8 +81,8 @@ returns c =
     c.before.before.before.before.before.before.before.before.before.before.before.before.before.before.page-words.ensures c.before.before.before.before.before.before.before.before.before.before.before.before.before.page-cells.ensures c.before.before.before.before.before.before.before.before.before.before.before.before.page-cells2.ensures c.before.before.before.before.before.before.before.unless-emptied.ensures
     c.before.before.before.before.before.before.before.before.before.before.drain.ensures c.before.before.before.before.store-released.ensures
 
-pub release-page-spec : {M : Type 1} → statement M
-release-page-spec =
+pub release_page_spec : {M : Type 1} → statement M
+release_page_spec =
     tie.close
     (tie.spec
     page-words-requires

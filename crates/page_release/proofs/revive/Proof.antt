@@ -63,8 +63,8 @@ returns-2 c =
     c.before.before.before.before.before.before.before.before.before.before.before.before.before.before.before.before.before.before.before.block_words.ensures c.before.before.before.before.before.before.before.before.before.before.before.before.before.before.before.before.before.before.split-retired-block.ensures c.before.before.before.before.before.before.before.before.before.before.before.before.before.before.put-block-words.ensures
     _ _ _ _ (λ e. c.before.before.before.before.before.before.before.before.before.before.if1.false (c.before.before.before.before.before.before.before.before.before.before.before.bit.ensures ∙ e)) c.before.before.before.before.before.before.release-page.ensures
 
-pub revive-spec : {M : Type 1} → statement M
-revive-spec =
+pub revive_spec : {M : Type 1} → statement M
+revive_spec =
     tie.close
     (tie.spec
     block-words-requires

@@ -15,5 +15,5 @@ returns-2 : tie.Need-returns-2
 unfolding settled_words
 returns-2 c = rw (ne_eqb _ _ c.if1.false)
 
-pub unless-emptied-spec : {M : Type 1} → statement M
-unless-emptied-spec = tie.close (tie.spec returns returns-2)
+pub unless_emptied_spec : {M : Type 1} → statement M
+unless_emptied_spec = tie.close (tie.spec returns returns-2)

@@ -49,8 +49,8 @@ returns c = λ i. record {
   values = c.before.before.pack2.ensures i;
 }
 
-pub demote-spec : {M : Type 1} → statement M
-demote-spec =
+pub demote_spec : {M : Type 1} → statement M
+demote_spec =
     tie.close
     (tie.spec
     count-requires

@@ -65,8 +65,8 @@ returns-2 c =
           ∙ ap (settle_page_of s.demote_at) (page-taken s.w _ _ _ _ q));
     }
 
-pub remove-spec : {M : Type 1} → statement M
-remove-spec =
+pub remove_spec : {M : Type 1} → statement M
+remove_spec =
     tie.close
     (tie.spec
     cast-slot

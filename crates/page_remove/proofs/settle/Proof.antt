@@ -51,8 +51,8 @@ returns-3 c =
 returns-4 : tie.Need-returns-4
 returns-4 c = let n : tie.After-count = c.before in settle-sparse _ _ _ n.count.ensures n.before.if1.false c.if2.false
 
-pub settle-spec : {M : Type 1} → statement M
-settle-spec =
+pub settle_spec : {M : Type 1} → statement M
+settle_spec =
     tie.close
     (tie.spec
     returns

@@ -21,5 +21,5 @@ returns c = λ i. record {
   filled = c.clear2.ensures i;
 }
 
-pub take-cell-spec : {M : Type 1} → statement M
-take-cell-spec = tie.close (tie.spec clear-requires clear-requires-2 returns)
+pub take_cell_spec : {M : Type 1} → statement M
+take_cell_spec = tie.close (tie.spec clear-requires clear-requires-2 returns)

@@ -16,5 +16,5 @@ returns c = search rules
 returns-2 : tie.Need-returns-2
 returns-2 c = let s = c.before.before.args in let e : 0 ≡ s.w.retired_held - s.count = omega arith in ap (set_held s.w) e
 
-pub fewer-held-spec : {M : Type 1} → statement M
-fewer-held-spec = tie.close (tie.spec returns returns-2)
+pub fewer_held_spec : {M : Type 1} → statement M
+fewer_held_spec = tie.close (tie.spec returns returns-2)

@@ -45,8 +45,8 @@ returns-2 c =
     insert-gives s.w s.b s.page _ _ _ _ c.before.before.before.before.note-page.ensures
     (record { when = λ q. absurd (true≢false (sym q ∙ c.before.if1.false)); unless = λ q. refl }) (room c.before.before.before.before.before) c.add-live2.ensures
 
-pub inserted-spec : {M : Type 1} → statement M
-inserted-spec =
+pub inserted_spec : {M : Type 1} → statement M
+inserted_spec =
     tie.close
     (tie.spec
     note-page-requires

@@ -33,8 +33,8 @@ unmark-page-requires c κs = search rules
 returns-2 : tie.Need-returns-2
 returns-2 c = release-emptied _ _ _ _ _ _ _ _ c.before.before.before.before.fewer-held.ensures c.before.before.before.note-page.ensures c.before.before.if1.false c.before.settle-retired.ensures c.unmark-page.ensures
 
-pub released-spec : {M : Type 1} → statement M
-released-spec =
+pub released_spec : {M : Type 1} → statement M
+released_spec =
     tie.close
     (tie.spec
     fewer-held-requires

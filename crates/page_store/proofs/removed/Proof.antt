@@ -35,7 +35,7 @@ returns-2 c =
     remove-gives s.w s.b s.page s.left s.cause _ _ _ _ l.sub-live.ensures n.note-page.ensures
     (record { when = λ q. absurd (true≢false (sym q ∙ c.if1.false)); unless = λ q. refl }) refl (room l.before)
 
-pub removed-spec : {M : Type 1} → statement M
-removed-spec =
+pub removed_spec : {M : Type 1} → statement M
+removed_spec =
     tie.close
     (tie.spec sub-live-requires note-page-requires count-demotion-requires returns returns-2)

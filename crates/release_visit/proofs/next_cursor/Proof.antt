@@ -41,8 +41,8 @@ returns-2 : tie.Need-returns-2
 unfolding next_cursor_of
 returns-2 c = rw (← c.before.before.page-words.ensures, ne_eqb _ _ c.if1.false)
 
-pub next-cursor-spec : {M : Type 1} → statement M
-next-cursor-spec =
+pub next_cursor_spec : {M : Type 1} → statement M
+next_cursor_spec =
     tie.close
     (tie.spec
     page-words-requires

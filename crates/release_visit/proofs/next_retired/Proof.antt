@@ -37,8 +37,8 @@ returns-3 c = let s = c.before.before.before.before.before.before.before in find
 returns-4 : tie.Need-returns-4
 returns-4 c = let s = c.before.before.before.before.before.before.before in finds-none s.args.w s.args.blocks.now s.args.end s.requires.0 (omega (arith, c.before.before.before.before.if1.false)) _ c.before.before.before.next-retired-page.ensures (omega (arith, c.before.before.if2.false)) _ c.before.next-retired-page2.ensures (omega (arith, c.if3.false))
 
-pub next-retired-spec : {M : Type 1} → statement M
-next-retired-spec =
+pub next_retired_spec : {M : Type 1} → statement M
+next_retired_spec =
     tie.close
     (tie.spec
     cast-cursor

@@ -159,8 +159,8 @@ returns-3 c =
     visiting-ends a.w a.sequences.now a.values.now a.pages.now a.blocks.now a.returned.now a.at a.budget _ _ _ _ _ _ p.loop.invariant _ c.settle-retired.ensures
     (⊎_elim (λ t. inl (omega (arith, t.left))) (λ t. inr t.2.taken) c.before.loop-test.branch)
 
-pub release-retired-spec : {M : Type 1} → statement M
-release-retired-spec =
+pub release_retired_spec : {M : Type 1} → statement M
+release_retired_spec =
     tie.close
     (tie.spec
     invariant-loop

@@ -49,8 +49,8 @@ returns c =
     visit-gives a.w a.sequences.now a.values.now a.pages.now a.blocks.now a.returned.now a.page a.at a.limit a.end _ _ _ _ _
     s.requires.0.0 s.requires.0.1 s.requires.1.3 c.before.before.before.before.before.before.before.before.before.release-page.ensures c.next-cursor.ensures
 
-pub visit-page-spec : {M : Type 1} → statement M
-visit-page-spec =
+pub visit_page_spec : {M : Type 1} → statement M
+visit_page_spec =
     tie.close
     (tie.spec
     cast-n

@@ -12,5 +12,5 @@ returns : tie.Need-returns
 unfolding bit_at
 returns c = refl
 
-pub bit-spec : {M : Type 1} → statement M
-bit-spec = tie.close (tie.spec shr-result returns)
+pub bit_spec : {M : Type 1} → statement M
+bit_spec = tie.close (tie.spec shr-result returns)

@@ -13,5 +13,5 @@ cast-result c = trailing-fits _
 returns : tie.Need-returns
 returns c = lowest-code _ _ c.requires
 
-pub lowest-spec : {M : Type 1} → statement M
-lowest-spec = tie.close (tie.spec shl-result cast-result returns)
+pub lowest_spec : {M : Type 1} → statement M
+lowest_spec = tie.close (tie.spec shl-result cast-result returns)

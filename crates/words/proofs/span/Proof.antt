@@ -19,5 +19,5 @@ shl-result c = search rules
 returns : tie.Need-returns
 returns c = span-code _ _ c.requires.0 c.requires.1
 
-pub span-spec : {M : Type 1} → statement M
-span-spec = tie.close (tie.spec sub-result sub-result-2 shr-result shl-result returns)
+pub span_spec : {M : Type 1} → statement M
+span_spec = tie.close (tie.spec sub-result sub-result-2 shr-result shl-result returns)

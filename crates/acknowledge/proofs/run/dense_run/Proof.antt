@@ -67,8 +67,8 @@ returns-2 c =
       missed = λ l r. omega (arith, r.0, unused-at s.args.filled s.args.slot _ (omega arith) (omega arith) low.lowest.ensures l);
     }
 
-pub dense-run-spec : {M : Type 1} → statement M
-dense-run-spec =
+pub dense_run_spec : {M : Type 1} → statement M
+dense_run_spec =
     tie.close
     (tie.spec
     invariant-loop

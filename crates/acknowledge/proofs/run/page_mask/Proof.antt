@@ -19,5 +19,5 @@ row-mask-requires-2 c κs = search rules
 returns-3 : tie.Need-returns-3
 returns-3 c = rw (ne_eqb _ 2 c.before.if2.false) c.row-mask2.ensures
 
-pub page-mask-spec : {M : Type 1} → statement M
-page-mask-spec = tie.close (tie.spec returns row-mask-requires returns-2 row-mask-requires-2 returns-3)
+pub page_mask_spec : {M : Type 1} → statement M
+page_mask_spec = tie.close (tie.spec returns row-mask-requires returns-2 row-mask-requires-2 returns-3)

@@ -25,8 +25,8 @@ lowest-requires c κs = search rules
 returns-3 : tie.Need-returns-3
 returns-3 c = run-sparse _ _ _ _ _ (omega arith) _ _ c.before.before.if2.false (omega arith) (omega arith) c.before.row-mask.ensures c.lowest.ensures
 
-pub page-run-spec : {M : Type 1} → statement M
-page-run-spec =
+pub page_run_spec : {M : Type 1} → statement M
+page_run_spec =
     tie.close
     (tie.spec
     bit-requires

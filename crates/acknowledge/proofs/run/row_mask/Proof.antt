@@ -55,8 +55,8 @@ returns c =
     let e : c.before.loop.c ≡ c.before.before.before.args.n = omega arith in
     rw e at i.1
 
-pub row-mask-spec : {M : Type 1} → statement M
-row-mask-spec =
+pub row_mask_spec : {M : Type 1} → statement M
+row_mask_spec =
     tie.close
     (tie.spec
     invariant-loop

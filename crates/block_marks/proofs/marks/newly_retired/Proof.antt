@@ -11,5 +11,5 @@ returns c =
     let g : x.retired < 2 ^ 64 = omega arith in
     newly-code _ _ f g
 
-pub newly-retired-spec : {M : Type 1} → statement M
-newly-retired-spec = tie.close (tie.spec returns)
+pub newly_retired_spec : {M : Type 1} → statement M
+newly_retired_spec = tie.close (tie.spec returns)

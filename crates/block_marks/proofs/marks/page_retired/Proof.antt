@@ -27,8 +27,8 @@ returns : tie.Need-returns
 unfolding page_retired_of block_words_at
 returns c = rw (← c.before.retired-pages.ensures) c.bit.ensures
 
-pub page-retired-spec : {M : Type 1} → statement M
-page-retired-spec =
+pub page_retired_spec : {M : Type 1} → statement M
+page_retired_spec =
     tie.close
     (tie.spec
     mul-retired

@@ -13,5 +13,5 @@ returns c = sym (retired-block _ _ _ (eq-eqb _ _ (sym c.before.bit.ensures ∙ c
 returns-2 : tie.Need-returns-2
 returns-2 c = sym (unretired-block _ _ _ (ne_eqb _ _ (λ e. c.if1.false (c.before.bit.ensures ∙ e))))
 
-pub retired-pages-spec : {M : Type 1} → statement M
-retired-pages-spec = tie.close (tie.spec bit-requires returns returns-2)
+pub retired_pages_spec : {M : Type 1} → statement M
+retired_pages_spec = tie.close (tie.spec bit-requires returns returns-2)

@@ -10,5 +10,5 @@ returns c = drops-marks _ (eq-eqb _ _ c.if1.true)
 returns-2 : tie.Need-returns-2
 returns-2 c = keeps-marks _ (ne_eqb _ _ c.if1.false)
 
-pub settle-retired-spec : {M : Type 1} → statement M
-settle-retired-spec = tie.close (tie.spec returns returns-2)
+pub settle_retired_spec : {M : Type 1} → statement M
+settle_retired_spec = tie.close (tie.spec returns returns-2)

@@ -17,5 +17,5 @@ returns c =
 returns-2 : tie.Need-returns-2
 returns-2 c = keeps _ _ _ (ne_eqb _ _ (λ e. c.if1.false (c.before.bit.ensures ∙ e)))
 
-pub split-retired-block-spec : {M : Type 1} → statement M
-split-retired-block-spec = tie.close (tie.spec bit-requires clear-requires returns returns-2)
+pub split_retired_block_spec : {M : Type 1} → statement M
+split_retired_block_spec = tie.close (tie.spec bit-requires clear-requires returns returns-2)

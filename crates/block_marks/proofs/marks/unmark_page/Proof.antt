@@ -12,5 +12,5 @@ returns : tie.Need-returns
 unfolding without_mark
 returns c = ap (with_retired c.before.args.b) c.clear.ensures
 
-pub unmark-page-spec : {M : Type 1} → statement M
-unmark-page-spec = tie.close (tie.spec clear-requires returns)
+pub unmark_page_spec : {M : Type 1} → statement M
+unmark_page_spec = tie.close (tie.spec clear-requires returns)

@@ -31,7 +31,7 @@ same_length c = search rules
 returns-2 : tie.Need-returns-2
 returns-2 c = let s = c.before.before.before.before.before.before.before in between-some _ _ _ _ c.before.before.before.before.before.if1.false _ c.before.before.before.span.ensures s.requires.1 _ _ c.before.before.retire-blocks.ensures
 
-pub retire-between-spec : {M : Type 1} → statement M
-retire-between-spec =
+pub retire_between_spec : {M : Type 1} → statement M
+retire_between_spec =
     tie.close
     (tie.spec add-first returns span-requires retire-blocks-requires same_length returns-2)

@@ -27,6 +27,6 @@ same_length c = search rules
 returns-2 : tie.Need-returns-2
 returns-2 c = first_part _ _ _ _ _ _ _ c.before.before.before.before.before.if1.false c.before.before.before.span.ensures c.before.before.retire-pages-in-block.ensures
 
-pub retire-first-spec : {M : Type 1} → statement M
-retire-first-spec =
+pub retire_first_spec : {M : Type 1} → statement M
+retire_first_spec =
     tie.close (tie.spec returns span-requires retire-pages-in-block-requires same_length returns-2)

@@ -52,8 +52,8 @@ same-length-2 c = search rules
 returns-3 : tie.Need-returns-3
 returns-3 c = c.before.before.retire-several.ensures
 
-pub retire-pages-spec : {M : Type 1} → statement M
-retire-pages-spec =
+pub retire_pages_spec : {M : Type 1} → statement M
+retire_pages_spec =
     tie.close
     (tie.spec
     returns

@@ -28,8 +28,8 @@ same_length c = search rules
 returns : tie.Need-returns
 returns c = several-blocks _ _ _ _ _ c.before.before.before.before.before.before.before.before.before.before.before.before.before.before.requires.0 _ _ _ _ _ _ c.before.before.before.before.before.before.before.before.before.before.retire-first.ensures c.before.before.before.before.before.before.retire-last.ensures c.before.before.retire-between.ensures
 
-pub retire-several-spec : {M : Type 1} → statement M
-retire-several-spec =
+pub retire_several_spec : {M : Type 1} → statement M
+retire_several_spec =
     tie.close
     (tie.spec
     retire-first-requires

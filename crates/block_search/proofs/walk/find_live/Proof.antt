@@ -164,8 +164,8 @@ returns-4 c =
           (λ z. c.before.before.before.before.before.if3.true (e ∙ z)) _ _ _ _ _ c.before.before.before.before.before.before.before.before.before.before.page-words.ensures c.before.before.before.before.page-cells.ensures c.before.before.before.before.before.before.before.bits-within.ensures c.before.before.before.lowest.ensures c.before.before.slot_at.ensures;
     }
 
-pub find-live-spec : {M : Type 1} → statement M
-find-live-spec =
+pub find_live_spec : {M : Type 1} → statement M
+find_live_spec =
     tie.close
     (tie.spec
     invariant-loop

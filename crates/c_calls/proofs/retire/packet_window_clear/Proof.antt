@@ -29,7 +29,7 @@ returns c =
     let t = c.before.before.before.before.before.before.before.clear in
     in-numbers _ _ _ t.result c.in-numbers.result _ _ c.in-numbers.ensures t.ensures
 
-pub packet-window-clear-spec : {M : Type 1} → statement M
-packet-window-clear-spec =
+pub packet_window_clear_spec : {M : Type 1} → statement M
+packet_window_clear_spec =
     tie.close
     (tie.spec clear-requires in-numbers-requires same_length same-length-2 same-length-3 returns)

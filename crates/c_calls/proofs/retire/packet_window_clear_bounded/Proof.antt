@@ -29,8 +29,8 @@ returns c =
     let t = c.before.before.before.before.before.before.before.clear_bounded in
     in-numbers _ _ _ t.result c.in-numbers.result _ _ c.in-numbers.ensures t.ensures
 
-pub packet-window-clear-bounded-spec : {M : Type 1} → statement M
-packet-window-clear-bounded-spec =
+pub packet_window_clear_bounded_spec : {M : Type 1} → statement M
+packet_window_clear_bounded_spec =
     tie.close
     (tie.spec
     clear-bounded-requires

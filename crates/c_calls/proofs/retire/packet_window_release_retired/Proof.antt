@@ -29,8 +29,8 @@ returns c =
     let t = c.before.before.before.before.before.before.before.release_retired in
     in-numbers _ _ _ t.result c.in-numbers.result _ _ c.in-numbers.ensures t.ensures
 
-pub packet-window-release-retired-spec : {M : Type 1} → statement M
-packet-window-release-retired-spec =
+pub packet_window_release_retired_spec : {M : Type 1} → statement M
+packet_window_release_retired_spec =
     tie.close
     (tie.spec
     release-retired-requires

@@ -37,8 +37,8 @@ returns c =
     let t = c.before.before.before.before.before.before.before.before.before.before.before.remove_range in
     in-numbers _ _ _ t.result c.in-numbers.result _ _ c.in-numbers.ensures t.ensures
 
-pub packet-window-remove-range-spec : {M : Type 1} → statement M
-packet-window-remove-range-spec =
+pub packet_window_remove_range_spec : {M : Type 1} → statement M
+packet_window_remove_range_spec =
     tie.close
     (tie.spec
     remove-range-requires

@@ -20,5 +20,5 @@ refused-for-requires c κs = search rules
 returns-2 : tie.Need-returns-2
 returns-2 c = rw (sym c.before.before.fits-with-list.ensures ∙ not-false _ c.before.if1.false) c.refused-for.ensures
 
-pub admits-spec : {M : Type 1} → statement M
-admits-spec = tie.close (tie.spec fits-with-list-requires returns refused-for-requires returns-2)
+pub admits_spec : {M : Type 1} → statement M
+admits_spec = tie.close (tie.spec fits-with-list-requires returns refused-for-requires returns-2)

@@ -53,8 +53,8 @@ returns-5 c = search rules
 returns-6 : tie.Need-returns-6
 returns-6 c = search rules
 
-pub are-wire-numbers-spec : {M : Type 1} → statement M
-are-wire-numbers-spec =
+pub are_wire_numbers_spec : {M : Type 1} → statement M
+are_wire_numbers_spec =
     tie.close
     (tie.spec
     enum_told

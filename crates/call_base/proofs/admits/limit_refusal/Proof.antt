@@ -76,8 +76,8 @@ returns-8 c =
     let g = c.before.before.before.arguments4.given in
     base-taken (known_by s.w) s.arguments _ _ g.1 c.before.is-wire-number.ensures (not-false _ c.if3.false)
 
-pub limit-refusal-spec : {M : Type 1} → statement M
-limit-refusal-spec =
+pub limit_refusal_spec : {M : Type 1} → statement M
+limit_refusal_spec =
     tie.close
     (tie.spec
     enum_told

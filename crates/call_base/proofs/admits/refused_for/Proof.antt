@@ -26,6 +26,6 @@ returns-2 c =
     let s = c.before.before.before.args in
     wire-next (known_by s.w) s.arguments _ c.before.before.are-wire-numbers.ensures _ (not-false _ c.before.if1.false) c.limit-refusal.ensures
 
-pub refused-for-spec : {M : Type 1} → statement M
-refused-for-spec =
+pub refused_for_spec : {M : Type 1} → statement M
+refused_for_spec =
     tie.close (tie.spec are-wire-numbers-requires returns limit-refusal-requires returns-2)

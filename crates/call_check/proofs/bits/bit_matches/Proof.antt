@@ -13,5 +13,5 @@ nonempty-bit-requires c κs = search rules
 returns : tie.Need-returns
 returns c = decides-equal _ _ _ _ c.before.bit.ensures c.nonempty-bit.ensures
 
-pub bit-matches-spec : {M : Type 1} → statement M
-bit-matches-spec = tie.close (tie.spec bit-requires nonempty-bit-requires returns)
+pub bit_matches_spec : {M : Type 1} → statement M
+bit_matches_spec = tie.close (tie.spec bit-requires nonempty-bit-requires returns)

@@ -10,5 +10,5 @@ span-requires c κs = search rules
 returns : tie.Need-returns
 returns c = below_power _ _ _ c.span.ensures
 
-pub no-bits-from-spec : {M : Type 1} → statement M
-no-bits-from-spec = tie.close (tie.spec span-requires returns)
+pub no_bits_from_spec : {M : Type 1} → statement M
+no_bits_from_spec = tie.close (tie.spec span-requires returns)

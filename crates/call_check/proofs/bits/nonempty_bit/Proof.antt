@@ -9,5 +9,5 @@ returns c = rw (eq-eqb _ _ c.if1.true)
 returns-2 : tie.Need-returns-2
 returns-2 c = rw (ne_eqb _ _ c.if1.false)
 
-pub nonempty-bit-spec : {M : Type 1} → statement M
-nonempty-bit-spec = tie.close (tie.spec returns returns-2)
+pub nonempty_bit_spec : {M : Type 1} → statement M
+nonempty_bit_spec = tie.close (tie.spec returns returns-2)

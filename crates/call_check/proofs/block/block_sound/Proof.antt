@@ -84,8 +84,8 @@ returns-4 c =
     e.before.before.before.before.before.bit-matches.ensures e.before.before.before.before.if1.false
     e.before.before.before.no-bits-from.ensures e.before.before.if2.false e.before.no-bits-from2.ensures e.if3.false
 
-pub block-sound-spec : {M : Type 1} → statement M
-block-sound-spec =
+pub block_sound_spec : {M : Type 1} → statement M
+block_sound_spec =
     tie.close
     (tie.spec
     block-words-requires

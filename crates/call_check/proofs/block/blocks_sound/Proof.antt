@@ -54,8 +54,8 @@ returns-2 c =
     let l = c.before in
     record { is = λ ss vs. decides-yes (λ b k. l.loop.invariant.1 ss vs b (omega (arith, l.before.block-count.ensures, c.loop-test.false))) }
 
-pub blocks-sound-spec : {M : Type 1} → statement M
-blocks-sound-spec =
+pub blocks_sound_spec : {M : Type 1} → statement M
+blocks_sound_spec =
     tie.close
     (tie.spec
     invariant-loop

@@ -42,8 +42,8 @@ returns-2 c =
     let l = c.before.before.before.before in
     counts-decided _ _ _ _ l.before.page-count.ensures _ l.values-where.ensures c.before.before.if1.false _ c.before.values-where2.ensures
 
-pub counts-sound-spec : {M : Type 1} → statement M
-counts-sound-spec =
+pub counts_sound_spec : {M : Type 1} → statement M
+counts_sound_spec =
     tie.close
     (tie.spec
     page-count-requires

@@ -16,6 +16,6 @@ counts-sound-requires c κs = search rules
 returns-2 : tie.Need-returns-2
 returns-2 c = header-decided _ _ _ _ c.before.before.words-sound.ensures c.before.if1.false _ c.counts-sound.ensures
 
-pub header-sound-spec : {M : Type 1} → statement M
-header-sound-spec =
+pub header_sound_spec : {M : Type 1} → statement M
+header_sound_spec =
     tie.close (tie.spec words-sound-requires returns counts-sound-requires returns-2)

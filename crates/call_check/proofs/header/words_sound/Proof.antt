@@ -51,8 +51,8 @@ returns-5 c =
     none-held _ _ n.block-count.ensures _ n.before.before.before.page-count.ensures n.before.if1.false
     _ e.before.before.before.no-bits-from.ensures e.before.before.if2.false _ e.before.no-bits-from2.ensures e.if3.false c.before.if4.false
 
-pub words-sound-spec : {M : Type 1} → statement M
-words-sound-spec =
+pub words_sound_spec : {M : Type 1} → statement M
+words_sound_spec =
     tie.close
     (tie.spec
     page-count-requires

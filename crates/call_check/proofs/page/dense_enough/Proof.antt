@@ -21,5 +21,5 @@ returns-4 : tie.Need-returns-4
 returns-4 c =
     dense-decided _ _ _ c.before.before.before.before.if1.false c.before.before.if2.false c.before.if3.false _ c.count.ensures
 
-pub dense-enough-spec : {M : Type 1} → statement M
-dense-enough-spec = tie.close (tie.spec returns returns-2 returns-3 count-requires returns-4)
+pub dense_enough_spec : {M : Type 1} → statement M
+dense_enough_spec = tie.close (tie.spec returns returns-2 returns-3 count-requires returns-4)

@@ -54,8 +54,8 @@ returns-2 c =
     page-decided s.args.w s.args.sequences.now _ _ _ s.requires.2 _ m.before.before.page-words.ensures _ m.before.block_words.ensures
     _ m.page-matches.ensures c.before.before.before.if1.false _ c.before.page-cells.ensures _ refl _ c.page-sound.ensures
 
-pub page-at-sound-spec : {M : Type 1} → statement M
-page-at-sound-spec =
+pub page_at_sound_spec : {M : Type 1} → statement M
+page_at_sound_spec =
     tie.close
     (tie.spec
     page-words-requires

@@ -38,8 +38,8 @@ returns-3 c =
     j.if2.branch)
     _ _ c.before.before.retired-pages.ensures c.before.bit2.ensures _ c.dense-enough.ensures
 
-pub page-matches-spec : {M : Type 1} → statement M
-page-matches-spec =
+pub page_matches_spec : {M : Type 1} → statement M
+page_matches_spec =
     tie.close
     (tie.spec
     bit-matches-requires

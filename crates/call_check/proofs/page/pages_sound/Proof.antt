@@ -54,8 +54,8 @@ returns-2 c =
     let l = c.before in
     record { is = λ vs. decides-yes (λ g k. l.loop.invariant.1 vs g (omega (arith, l.before.page-count.ensures, c.loop-test.false))) }
 
-pub pages-sound-spec : {M : Type 1} → statement M
-pages-sound-spec =
+pub pages_sound_spec : {M : Type 1} → statement M
+pages_sound_spec =
     tie.close
     (tie.spec
     invariant-loop

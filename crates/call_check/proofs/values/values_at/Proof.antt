@@ -20,6 +20,6 @@ returns-2 : tie.Need-returns-2
 returns-2 c =
     rw (← c.before.before.before.page-retired.ensures, eq-eqb _ _ c.before.before.if1.false, ← c.before.page-words.ensures) c.count.ensures
 
-pub values-at-spec : {M : Type 1} → statement M
-values-at-spec =
+pub values_at_spec : {M : Type 1} → statement M
+values_at_spec =
     tie.close (tie.spec page-retired-requires returns page-words-requires count-requires returns-2)

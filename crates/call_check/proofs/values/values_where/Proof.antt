@@ -38,8 +38,8 @@ loop-again c = counting-turn _ _ _ _ _ _ _ _ c.before.before.loop.invariant c.be
 returns : tie.Need-returns invariant-loop decreases-loop
 returns c = counting-ends _ _ _ _ _ _ _ _ c.before.loop.invariant c.loop-test.false
 
-pub values-where-spec : {M : Type 1} → statement M
-values-where-spec =
+pub values_where_spec : {M : Type 1} → statement M
+values_where_spec =
     tie.close
     (tie.spec
     invariant-loop

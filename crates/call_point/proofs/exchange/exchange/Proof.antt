@@ -57,8 +57,8 @@ returns-2 c =
     admitted-meets (call (start a)) (found (start a)) 384 refl a.admits.result a.admits.ensures k.match.keys2 [] _ refl
     (exchange-acts (start a).args.sequence (start a).args.value (found (start a)) [] _ x.exchange-value.ensures z)
 
-pub exchange-spec : {M : Type 1} → statement M
-exchange-spec =
+pub exchange_spec : {M : Type 1} → statement M
+exchange_spec =
     tie.close
     (tie.spec
     admits-requires

@@ -44,8 +44,8 @@ returns c =
     let s : tie.Start = k.before.before.before in
     exchange-lent s.args.page _ _ _ _ _ _ _ _ _ s.requires.2 k.page-cells.ensures x.exchange.auto.1.0 x.exchange.ensures
 
-pub exchange-in-page-spec : {M : Type 1} → statement M
-exchange-in-page-spec =
+pub exchange_in_page_spec : {M : Type 1} → statement M
+exchange_in_page_spec =
     tie.close
     (tie.spec
     page-cells-requires

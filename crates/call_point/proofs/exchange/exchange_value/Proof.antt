@@ -63,8 +63,8 @@ returns-2 c =
     exchange-admitted s.args.w (memory_of s) s.pre s.args.sequence p.position.result k.reachable.result p.position.ensures k.reachable.ensures s.args.value w.before.if1.false
     w.page-words.result w.page-words.ensures x.exchange-in-page.result _ x.exchange-in-page.ensures a.read_answer.result a.read_answer.ensures _ c.reply2.ensures
 
-pub exchange-value-spec : {M : Type 1} → statement M
-exchange-value-spec =
+pub exchange_value_spec : {M : Type 1} → statement M
+exchange_value_spec =
     tie.close
     (tie.spec
     cast-n

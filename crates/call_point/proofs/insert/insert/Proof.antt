@@ -92,8 +92,8 @@ returns-2 c =
     (insert-acts s.args.sequence s.args.value (leb 384 (length s.args.returned.now)) s.args.w (found s).memory s.args.returned.now x.insert-value.result _ _
     x.insert-value.ensures z c.keep-point.result c.keep-point.ensures)
 
-pub insert-spec : {M : Type 1} → statement M
-insert-spec =
+pub insert_spec : {M : Type 1} → statement M
+insert_spec =
     tie.close
     (tie.spec
     admits-requires

@@ -49,8 +49,8 @@ returns c =
     let s : tie.Start = x.before.before.before.before.before in
     insert-lent s.args.page _ _ _ _ _ _ _ _ _ s.requires.1 s.requires.2 x.insert.auto.0 x.insert.auto.1.0 x.insert.ensures
 
-pub insert-in-page-spec : {M : Type 1} → statement M
-insert-in-page-spec =
+pub insert_in_page_spec : {M : Type 1} → statement M
+insert_in_page_spec =
     tie.close
     (tie.spec
     mul-from

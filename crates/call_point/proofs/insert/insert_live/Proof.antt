@@ -35,8 +35,8 @@ returns c =
     inserts-live s.args.w (memory s.args.sequences.now s.args.values.now s.args.pages.now s.args.blocks.now) s.args.page s.args.n s.args.sequence s.args.value s.requires.0.1 s.requires.0.2 s.requires.1.2
     w.page-words.result w.page-words.ensures x.insert-in-page.result _ _ x.insert-in-page.ensures k.keep.result _ _ k.keep.ensures
 
-pub insert-live-spec : {M : Type 1} → statement M
-insert-live-spec =
+pub insert_live_spec : {M : Type 1} → statement M
+insert_live_spec =
     tie.close
     (tie.spec
     page-words-requires

@@ -64,8 +64,8 @@ returns c =
     entered-admitted s.args.w (memory_of s) s.pre.0 s.args.sequence p.position.result k.reachable.result p.position.ensures k.reachable.ensures s.args.value (leb 384 (length s.args.returned.now)) s.args.returned.now s.pre.1
     t.made-live.result _ _ _ t.made-live.ensures x.enter.result _ x.enter.ensures
 
-pub insert-value-spec : {M : Type 1} → statement M
-insert-value-spec =
+pub insert_value_spec : {M : Type 1} → statement M
+insert_value_spec =
     tie.close
     (tie.spec
     cast-n

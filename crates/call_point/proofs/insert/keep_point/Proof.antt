@@ -24,5 +24,5 @@ returns-2 c =
     let s = c.before.before.before.before.before.before.args in
     old-kept s.w s.sequences.now s.pages.now s.blocks.now s.sequence s.step (not_new s.step.answer.answer c.match.keys2)
 
-pub keep-point-spec : {M : Type 1} → statement M
-keep-point-spec = tie.close (tie.spec enum_told after-insert-requires returns returns-2)
+pub keep_point_spec : {M : Type 1} → statement M
+keep_point_spec = tie.close (tie.spec enum_told after-insert-requires returns returns-2)

@@ -20,5 +20,5 @@ returns-2 c =
 returns-3 : tie.Need-returns-3
 returns-3 c = record { revived = λ z. other-revived _ (not-refused c.before.before.args.answer c.match.keys2); live = λ n. refl }
 
-pub live-answer-spec : {M : Type 1} → statement M
-live-answer-spec = tie.close (tie.spec returns enum-known-answer returns-2 returns-3)
+pub live_answer_spec : {M : Type 1} → statement M
+live_answer_spec = tie.close (tie.spec returns enum-known-answer returns-2 returns-3)

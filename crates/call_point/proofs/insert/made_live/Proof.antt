@@ -25,6 +25,6 @@ returns c =
 returns-2 : tie.Need-returns-2
 returns-2 c = record { revived = λ z. absurd (c.if1.false z); live = λ n. (refl, refl, refl) }
 
-pub made-live-spec : {M : Type 1} → statement M
-made-live-spec =
+pub made_live_spec : {M : Type 1} → statement M
+made_live_spec =
     tie.close (tie.spec revive-requires same_length same-length-2 same-length-3 returns returns-2)

@@ -37,8 +37,8 @@ returns-2 c =
     let s = c.before.before.before.before.before.args in
     absent-keeps s.w s.pages.now s.blocks.now s.page s.words s.left s.read c.reply2.result c.before.enum_told.given.1 c.reply2.ensures
 
-pub keep-removed-spec : {M : Type 1} → statement M
-keep-removed-spec =
+pub keep_removed_spec : {M : Type 1} → statement M
+keep_removed_spec =
     tie.close
     (tie.spec
     enum-known-read

@@ -76,8 +76,8 @@ returns-2 c =
     admitted-meets (call s) (found s) 384 refl a.admits.result a.admits.ensures k.match.keys2 [] _ refl
     (remove-acts s.args.sequence (found s) x.remove-value.result _ x.remove-value.ensures z c.keep-point.result c.keep-point.ensures)
 
-pub remove-spec : {M : Type 1} → statement M
-remove-spec =
+pub remove_spec : {M : Type 1} → statement M
+remove_spec =
     tie.close
     (tie.spec
     admits-requires

@@ -49,8 +49,8 @@ returns c =
     let s : tie.Start = x.before.before.before.before.before in
     remove-lent s.args.page _ _ _ _ _ _ _ _ _ s.requires.1 s.requires.2 x.remove.auto.0 x.remove.auto.1.0 x.remove.ensures
 
-pub remove-in-page-spec : {M : Type 1} → statement M
-remove-in-page-spec =
+pub remove_in_page_spec : {M : Type 1} → statement M
+remove_in_page_spec =
     tie.close
     (tie.spec
     mul-from

@@ -78,8 +78,8 @@ returns-2 c =
     remove-admitted s.args.w (memory_of s) s.pre s.args.sequence p.position.result k.reachable.result p.position.ensures k.reachable.ensures w.before.before.if1.false
     w.page-words.result w.page-words.ensures x.remove-in-page.result _ _ x.remove-in-page.ensures t.keep-removed.result _ _ t.keep-removed.ensures
 
-pub remove-value-spec : {M : Type 1} → statement M
-remove-value-spec =
+pub remove_value_spec : {M : Type 1} → statement M
+remove_value_spec =
     tie.close
     (tie.spec
     cast-n

@@ -70,8 +70,8 @@ returns-2 c =
     (subst (λ (r : Step). Acts (call s) (found s) [] (left_of r (found s).memory [])) (sym c.reply.ensures)
     (base-acts s.args.base s.args.w (found s).memory b.after-base.result z b.after-base.ensures))
 
-pub set-base-spec : {M : Type 1} → statement M
-set-base-spec =
+pub set_base_spec : {M : Type 1} → statement M
+set_base_spec =
     tie.close
     (tie.spec
     admits-requires

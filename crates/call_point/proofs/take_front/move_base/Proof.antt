@@ -29,5 +29,5 @@ returns-2 c =
     let s = c.before.before.before.before.before.before.args in
     absent-moves s.w s.sequences.now s.pages.now s.blocks.now s.step (not_found s.step.answer.answer c.match.keys2)
 
-pub move-base-spec : {M : Type 1} → statement M
-move-base-spec = tie.close (tie.spec enum-known-given sequence-at-requires after-base-requires returns returns-2)
+pub move_base_spec : {M : Type 1} → statement M
+move_base_spec = tie.close (tie.spec enum-known-given sequence-at-requires after-base-requires returns returns-2)

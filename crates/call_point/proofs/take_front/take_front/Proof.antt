@@ -83,8 +83,8 @@ returns-2 c =
     admitted-meets (call s) (found s) 384 refl a.admits.result a.admits.ensures k.match.keys2 [] _ refl
     (front-acts s.args.w (found s).memory x.remove-value.result _ c.move-base.result x.remove-value.ensures c.move-base.ensures)
 
-pub take-front-spec : {M : Type 1} → statement M
-take-front-spec =
+pub take_front_spec : {M : Type 1} → statement M
+take_front_spec =
     tie.close
     (tie.spec
     admits-requires

@@ -131,8 +131,8 @@ loop-again c =
 returns-2 : tie.Need-returns-2 invariant-loop decreases-loop
 returns-2 c = laws.ends _ _ _ _ _ c.before.before.before.before.requires.0 _ c.before.loop.invariant c.loop-test.false
 
-pub cell-in-block-spec : {M : Type 1} → statement M
-cell-in-block-spec =
+pub cell_in_block_spec : {M : Type 1} → statement M
+cell_in_block_spec =
     tie.close
     (tie.spec
     invariant-loop

@@ -27,5 +27,5 @@ returns-2 c =
     ∙ ap (λ (x : PageWords). lowest x.filled s.from) c.before.page-words.ensures
     ∙ page-live s.pages.now s.live s.page s.from c.before.before.before.before.before.requires.1 (λ z. c.before.before.if1.false (c.before.before.before.bit.ensures ∙ z))
 
-pub cell-in-page-spec : {M : Type 1} → statement M
-cell-in-page-spec = tie.close (tie.spec bit-requires returns page-words-requires lowest-requires returns-2)
+pub cell_in_page_spec : {M : Type 1} → statement M
+cell_in_page_spec = tie.close (tie.spec bit-requires returns page-words-requires lowest-requires returns-2)

@@ -12,5 +12,5 @@ add_reads c = search rules
 returns : tie.Need-returns
 returns c = λ i. record { live = c.selected-pages.ensures i; reads = c.before.before.args.reads + 1 }
 
-pub enter-block-spec : {M : Type 1} → statement M
-enter-block-spec = tie.close (tie.spec selected-pages-requires add_reads returns)
+pub enter_block_spec : {M : Type 1} → statement M
+enter_block_spec = tie.close (tie.spec selected-pages-requires add_reads returns)

@@ -55,7 +55,7 @@ walk-blocks-requires c κs =
 returns-2 : tie.Need-returns-2
 returns-2 c = c.walk-blocks.ensures
 
-pub next-cell-spec : {M : Type 1} → statement M
-next-cell-spec =
+pub next_cell_spec : {M : Type 1} → statement M
+next_cell_spec =
     tie.close
     (tie.spec enter-block-requires cell-in-page-requires mul-cell add-cell returns walk-blocks-requires returns-2)

@@ -105,8 +105,8 @@ returns-2 c =
     subst (λ (k : ℕ). FindsCell s.args.w s.args.pages.now s.args.blocks.now s.args.start s.args.end (record { cell = s.args.end; reads = k })) (sym (reads-are l))
     (block-end s.args.w _ _ _ _ s.requires.0.1 s.requires.0.2 _ _ l.loop.invariant.3 (cell-is g) (omega (arith, c.before.if1.false)) (omega (arith, c.if2.true, l.loop.invariant.1)))
 
-pub walk-blocks-spec : {M : Type 1} → statement M
-walk-blocks-spec =
+pub walk_blocks_spec : {M : Type 1} → statement M
+walk_blocks_spec =
     tie.close
     (tie.spec
     invariant-loop

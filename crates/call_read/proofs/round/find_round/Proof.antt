@@ -59,8 +59,8 @@ returns-3 c =
     subst (FindsRound s.w _ _ _ s.sequence) (sym c.found-answer3.ensures)
     (finds-upper s.w _ _ _ s.sequence _ _ c.before.before.before.before.position.ensures c.before.before.before.before.before.capacity.ensures (omega (arith, c.before.before.before.if1.false)) _ c.before.before.find-live2.ensures (something c.before.before.find-live2.result c.before.match.keys2))
 
-pub find-round-spec : {M : Type 1} → statement M
-find-round-spec =
+pub find_round_spec : {M : Type 1} → statement M
+find_round_spec =
     tie.close
     (tie.spec
     capacity-requires

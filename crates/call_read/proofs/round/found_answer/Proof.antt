@@ -22,6 +22,6 @@ returns-2 c = search rules
 returns-3 : tie.Need-returns-3
 returns-3 c = ap found_answer_of (sym c.enum-told2.given.1)
 
-pub found-answer-spec : {M : Type 1} → statement M
-found-answer-spec =
+pub found_answer_spec : {M : Type 1} → statement M
+found_answer_spec =
     tie.close (tie.spec enum-known-found enum_told enum-told-2 returns returns-2 returns-3)

@@ -58,8 +58,8 @@ returns-3 c =
     let p = c.before.before.before.before.before.before.before.before.requires in
     finds-first s.w s.sequences.now s.pages.now s.blocks.now s.first s.count _ _ c.before.before.before.position.ensures c.before.before.before.before.capacity.ensures (omega (arith, p)) c.before.before.if1.false _ c.before.find-stranger2.ensures (something c.before.find-stranger2.result c.match.keys2)
 
-pub find-in-range-spec : {M : Type 1} → statement M
-find-in-range-spec =
+pub find_in_range_spec : {M : Type 1} → statement M
+find_in_range_spec =
     tie.close
     (tie.spec
     capacity-requires

@@ -70,8 +70,8 @@ returns-5 c =
     let s = c.before.before.before.before.before.args in
     finds-none s.w s.sequences.now s.pages.now s.blocks.now s.first s.count s.start s.end _ c.before.loop.invariant (omega arith) (omega (arith, c.loop-test.false))
 
-pub find-stranger-spec : {M : Type 1} → statement M
-find-stranger-spec =
+pub find_stranger_spec : {M : Type 1} → statement M
+find_stranger_spec =
     tie.close
     (tie.spec
     invariant-loop

@@ -27,5 +27,5 @@ returns c =
     let s = k.before.before.before.before.before.args in
     stranger-is s.w (memory s.sequences.now s.values.now s.pages.now s.blocks.now) s.first s.last k.range-count.result k.range-count.ensures _ _ c.before.find-in-range.ensures c.stranger-answer.ensures
 
-pub first-stranger-spec : {M : Type 1} → statement M
-first-stranger-spec = tie.close (tie.spec range-count-requires find-in-range-requires stranger-answer-requires returns)
+pub first_stranger_spec : {M : Type 1} → statement M
+first_stranger_spec = tie.close (tie.spec range-count-requires find-in-range-requires stranger-answer-requires returns)

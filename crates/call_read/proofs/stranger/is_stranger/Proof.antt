@@ -12,5 +12,5 @@ distance-requires c κs = search rules
 returns : tie.Need-returns
 returns c = ap (λ (d : ℕ). leb c.before.args.count d) c.distance.ensures
 
-pub is-stranger-spec : {M : Type 1} → statement M
-is-stranger-spec = tie.close (tie.spec distance-requires returns)
+pub is_stranger_spec : {M : Type 1} → statement M
+is_stranger_spec = tie.close (tie.spec distance-requires returns)

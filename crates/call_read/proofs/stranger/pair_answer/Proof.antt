@@ -26,5 +26,5 @@ returns-2 c =
     let s = v.before.before.before.before.before.args in
     gives_none s.w (found v) s.sequence v.value_of_lem.result v.value_of_lem.ensures c.match.keys2
 
-pub pair-answer-spec : {M : Type 1} → statement M
-pair-answer-spec = tie.close (tie.spec value-of-requires enum-known-answer returns returns-2)
+pub pair_answer_spec : {M : Type 1} → statement M
+pair_answer_spec = tie.close (tie.spec value-of-requires enum-known-answer returns returns-2)

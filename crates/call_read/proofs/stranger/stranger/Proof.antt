@@ -53,8 +53,8 @@ returns-2 c =
     asked-meets (stranger s.first s.last) (found m.before) m.before.admits.result m.before.admits.ensures m.match.keys2 _ _ c.reply.ensures refl
     c.before.first-stranger.ensures
 
-pub stranger-spec : {M : Type 1} → statement M
-stranger-spec =
+pub stranger_spec : {M : Type 1} → statement M
+stranger_spec =
     tie.close
     (tie.spec
     admits-requires

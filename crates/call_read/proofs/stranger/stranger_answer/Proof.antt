@@ -36,8 +36,8 @@ returns-3 c =
     let s = c.before.before.before.before.before.before.args in
     subst (λ (f : Found). GivesFound s.w (memory s.sequences.now s.values.now s.pages.now s.blocks.now) f (refused 7)) (sym c.enum-told2.given.1) (gives-unsound s.w (memory s.sequences.now s.values.now s.pages.now s.blocks.now))
 
-pub stranger-answer-spec : {M : Type 1} → statement M
-stranger-answer-spec =
+pub stranger_answer_spec : {M : Type 1} → statement M
+stranger_answer_spec =
     tie.close
     (tie.spec
     enum-known-found

@@ -44,8 +44,8 @@ returns c =
     (left_of y (memory s.sequences.now s.values.now t.new.1.1.1.0 t.new.1.1.1.1.0) t.new.1.1.1.1.1.0)) (sym c.finish.ensures)
     (clear-fills s.w s.sequences.now s.values.now s.pages.now s.blocks.now a.retire-all.result _ a.retire-all.ensures s.returned.now r _ _ _ t.ensures)
 
-pub clear-all-spec : {M : Type 1} → statement M
-clear-all-spec =
+pub clear_all_spec : {M : Type 1} → statement M
+clear_all_spec =
     tie.close
     (tie.spec
     retire-all-requires

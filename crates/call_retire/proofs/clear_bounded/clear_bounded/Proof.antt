@@ -73,8 +73,8 @@ returns-2 c =
     _ (clear-bounded-does s.w (memory s.sequences.now s.values.now s.pages.now s.blocks.now) s.number (leb 384 (length s.returned.now))) r.clear-some.ensures
     (λ a z. bounded-acts s.number (leb 384 (length s.returned.now)) (found m.before) s.returned.now r.clear-some.result _ _ c.cleared.result c.cleared.ensures a z r.clear-some.ensures.taken)
 
-pub clear-bounded-spec : {M : Type 1} → statement M
-clear-bounded-spec =
+pub clear_bounded_spec : {M : Type 1} → statement M
+clear_bounded_spec =
     tie.close
     (tie.spec
     admits-requires

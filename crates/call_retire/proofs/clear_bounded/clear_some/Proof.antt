@@ -55,8 +55,8 @@ returns c =
     (left_of y (memory s.sequences.now s.values.now t.new.1.1.1.0 t.new.1.1.1.1.0) t.new.1.1.1.1.1.0)) (sym c.finish.ensures)
     (clear-bounded-fills s.w s.sequences.now s.values.now s.pages.now s.blocks.now a.retire-all.result _ a.retire-all.ensures s.returned.now s.number r _ _ _ b.requires.1 b.requires.2 t.ensures)
 
-pub clear-some-spec : {M : Type 1} → statement M
-clear-some-spec =
+pub clear_some_spec : {M : Type 1} → statement M
+clear_some_spec =
     tie.close
     (tie.spec
     retire-all-requires

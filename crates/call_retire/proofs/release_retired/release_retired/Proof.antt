@@ -112,8 +112,8 @@ returns-3 c =
     (release-fills s.w s.sequences.now s.values.now s.pages.now s.blocks.now s.returned.now s.budget t.result _ _ _ (long m) (few m) t.ensures))
     (release-acts s.budget (leb 384 (length s.returned.now)) (found m.before) s.returned.now _)
 
-pub release-retired-spec : {M : Type 1} → statement M
-release-retired-spec =
+pub release_retired_spec : {M : Type 1} → statement M
+release_retired_spec =
     tie.close
     (tie.spec
     admits-requires

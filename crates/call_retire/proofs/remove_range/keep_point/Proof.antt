@@ -8,5 +8,5 @@ after-range-requires c κs = search rules
 returns : tie.Need-returns
 returns c = record { outcome = refl; window = c.after-range.ensures }
 
-pub keep-point-spec : {M : Type 1} → statement M
-keep-point-spec = tie.close (tie.spec after-range-requires returns)
+pub keep_point_spec : {M : Type 1} → statement M
+keep_point_spec = tie.close (tie.spec after-range-requires returns)

@@ -30,7 +30,7 @@ returns-2 c =
     let s = c.before.before.args in
     ready-aimed s.held s.start s.w _ (omega (arith, c.before.if1.false)) c.settle-retired2.ensures
 
-pub ready-spec : {M : Type 1} → statement M
-ready-spec =
+pub ready_spec : {M : Type 1} → statement M
+ready_spec =
     tie.close
     (tie.spec settle-retired-requires returns cast-window settle-retired-requires-2 returns-2)

@@ -122,8 +122,8 @@ returns-2 c =
     (range-fills s.args.w s.args.sequences.now s.args.values.now s.args.pages.now s.args.blocks.now s.args.returned.now s.args.start s.args.count s.requires.1.0 s.requires.1.1 s.requires.1.2
     t.result _ _ _ _ _ t.ensures r _ _ _ u.ensures d.result (omega arith) d.ensures)
 
-pub remove-positions-spec : {M : Type 1} → statement M
-remove-positions-spec =
+pub remove_positions_spec : {M : Type 1} → statement M
+remove_positions_spec =
     tie.close
     (tie.spec
     retire-requires

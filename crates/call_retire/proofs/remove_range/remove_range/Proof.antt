@@ -106,8 +106,8 @@ returns-2 c =
     fills (λ a z. range-acts s.first s.last (leb 384 (length s.returned.now)) s.w (found m.before).memory s.returned.now t.result _ _ a z fills.taken
     k.range-count.result k.range-count.ensures c.keep-point.result c.keep-point.ensures)
 
-pub remove-range-spec : {M : Type 1} → statement M
-remove-range-spec =
+pub remove_range_spec : {M : Type 1} → statement M
+remove_range_spec =
     tie.close
     (tie.spec
     admits-requires

@@ -48,8 +48,8 @@ returns c =
     let t = c.before.before.before.before.before.before.before.before.before.before.before.before.retire-range in
     ready-performs s.w (memory s.sequences.now s.values.now s.pages.now s.blocks.now) s.returned.now s.start s.count t.result _ _ _ t.ensures c.ready.ensures
 
-pub retire-spec : {M : Type 1} → statement M
-retire-spec =
+pub retire_spec : {M : Type 1} → statement M
+retire_spec =
     tie.close
     (tie.spec
     retire-range-requires

@@ -103,8 +103,8 @@ returns-3 c =
     let t : tie.After-iter invariant-loop decreases-loop = c.before.before in
     laws.no-pair _ _ _ _ _ _ _ t.before.before.before.loop.invariant _ t.iter.ensures (laws.none_in t.iter.result.answer.answer c.match.keys2)
 
-pub live-pairs-spec : {M : Type 1} → statement M
-live-pairs-spec =
+pub live_pairs_spec : {M : Type 1} → statement M
+live_pairs_spec =
     tie.close
     (tie.spec
     invariant-loop

@@ -65,8 +65,8 @@ returns-4 c =
       answers-as _ _ _ _ _ _ _ (call_line_lem (kept_of u) s.args.f c.before.before.before.before.before.before.before.before.before.before.before.if1.false c.before.before.before.before.before.before.before.if3.false) c.answer-call.ensures.1,
     )
 
-pub answer-spec : {M : Type 1} → statement M
-answer-spec =
+pub answer_spec : {M : Type 1} → statement M
+answer_spec =
     tie.close
     (tie.spec
     create-requires

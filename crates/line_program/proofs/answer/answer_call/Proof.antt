@@ -64,8 +64,8 @@ returns-2 c =
       unmade-answers (call_of (said_by s.args.f)) u s.args.returned.now m t.new.1.1.1.1.1.0 said s.args.f.letter _ _ _ _ _ c.before.before.before.before.before.before.before.before.before.call-arg5.given.0.1 c.unknown.ensures.1,
     )
 
-pub answer-call-spec : {M : Type 1} → statement M
-answer-call-spec =
+pub answer_call_spec : {M : Type 1} → statement M
+answer_call_spec =
     tie.close
     (tie.spec
     call-requires

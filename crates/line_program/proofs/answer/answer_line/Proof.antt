@@ -51,8 +51,8 @@ returns-2 c =
       answers-as _ _ _ _ _ _ _ (ap (said_line (kept_of u)) (sym t.ensures ∙ ap line_answer c.before.before.before.before.before.before.enum_told.given.1)) c.unknown.ensures.1,
     )
 
-pub answer-line-spec : {M : Type 1} → statement M
-answer-line-spec =
+pub answer_line_spec : {M : Type 1} → statement M
+answer_line_spec =
     tie.close
     (tie.spec
     parse-line-requires

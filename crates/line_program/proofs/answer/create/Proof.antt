@@ -68,8 +68,8 @@ returns-3 c =
           (ap (λ (x : Created). new_result (answer_of x) m) (sym c.before.before.before.before.made2.given.1) ∙ t.ensures) c.put-line2.ensures,
     )
 
-pub create-spec : {M : Type 1} → statement M
-create-spec =
+pub create_spec : {M : Type 1} → statement M
+create_spec =
     tie.close
     (tie.spec
     unknown-requires

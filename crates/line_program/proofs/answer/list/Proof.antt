@@ -22,5 +22,5 @@ returns c =
           c.before.before.before.before.before.before.live-pairs.ensures c.put-list.ensures,
     )
 
-pub list-spec : {M : Type 1} → statement M
-list-spec = tie.close (tie.spec live-pairs-requires put-list-requires returns)
+pub list_spec : {M : Type 1} → statement M
+list_spec = tie.close (tie.spec live-pairs-requires put-list-requires returns)

@@ -27,6 +27,6 @@ returns-2 c =
     let whole : n - 0 ≡ n = omega arith in
     rw (le-ltb _ _ c.before.before.if1.false) (rw whole at c.parse.ensures)
 
-pub parse-line-spec : {M : Type 1} → statement M
-parse-line-spec =
+pub parse_line_spec : {M : Type 1} → statement M
+parse_line_spec =
     tie.close (tie.spec returns sub-parse part-parse-start part-parse-end parse-requires returns-2)

@@ -16,5 +16,5 @@ returns c =
       unknown-answers s.args.at _ (search rules) s.requires.1 _ _ _ s.requires.0 c.put-unknown.ensures,
     )
 
-pub unknown-spec : {M : Type 1} → statement M
-unknown-spec = tie.close (tie.spec put-unknown-requires returns)
+pub unknown_spec : {M : Type 1} → statement M
+unknown_spec = tie.close (tie.spec put-unknown-requires returns)

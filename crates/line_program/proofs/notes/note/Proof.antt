@@ -32,6 +32,6 @@ returns-3 c =
     let t = c.before.before.before.wrapping-add-u64 in
     ap (notes t.result true t.result) c.fault-of.ensures ∙ noted-first s.args.n _ _ _ t.ensures c.before.if2.false c.before.before.if1.false
 
-pub note-spec : {M : Type 1} → statement M
-note-spec =
+pub note_spec : {M : Type 1} → statement M
+note_spec =
     tie.close (tie.spec wrapping-add-u64-requires returns returns-2 fault-of-requires returns-3)

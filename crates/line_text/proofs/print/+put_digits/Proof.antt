@@ -118,8 +118,8 @@ put-digits-returns-2 t c =
     rw (more-digits s.args.number s.ranges.number.fits c.before.before.before.before.before.before.before.before.if1.false)
     (put_then _ _ _ _ _ _ _ _ c.before.before.before.before.before.before.put-digits.ensures c.before.before.put-byte2.ensures)
 
-pub +put-digits-spec : {M : Type 1} → statement M
-+put-digits-spec = close μ-put-digits λ t. put-digits-lts.spec (
+pub +put_digits_spec : {M : Type 1} → statement M
++put_digits_spec = close μ-put-digits λ t. put-digits-lts.spec (
   put-byte-reads.Asked,
   put-byte-reads.Learnt,
   put-digits-below t,

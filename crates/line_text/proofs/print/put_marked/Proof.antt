@@ -20,5 +20,5 @@ same_length c = search rules
 returns : tie.Need-returns
 returns c = put_then _ _ _ _ _ _ _ _ c.before.before.before.before.before.before.put_byte.ensures c.before.before.put-number.ensures
 
-pub put-marked-spec : {M : Type 1} → statement M
-put-marked-spec = tie.close (tie.spec put-byte-requires put-number-requires same_length returns)
+pub put_marked_spec : {M : Type 1} → statement M
+put_marked_spec = tie.close (tie.spec put-byte-requires put-number-requires same_length returns)

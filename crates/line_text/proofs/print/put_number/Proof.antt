@@ -16,5 +16,5 @@ same_length c = c.before.before.put-digits.auto.0
 returns : tie.Need-returns
 returns c = c.before.before.put-digits.ensures
 
-pub put-number-spec : {M : Type 1} → statement M
-put-number-spec = tie.close (tie.spec put-digits-requires same_length returns)
+pub put_number_spec : {M : Type 1} → statement M
+put_number_spec = tie.close (tie.spec put-digits-requires same_length returns)

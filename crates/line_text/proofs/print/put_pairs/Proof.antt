@@ -86,8 +86,8 @@ returns c =
     let e : c.before.loop.i ≡ c.before.before.before.before.before.args.count = omega (arith, i.0, c.loop-test.false) in
     rw e at i.1.puts
 
-pub put-pairs-spec : {M : Type 1} → statement M
-put-pairs-spec =
+pub put_pairs_spec : {M : Type 1} → statement M
+put_pairs_spec =
     tie.close
     (tie.spec
     invariant-loop

@@ -60,8 +60,8 @@ returns c =
     let e : c.before.loop.i ≡ c.before.before.before.before.args.count = omega (arith, i.0, c.loop-test.false) in
     rw e at i.1.puts
 
-pub put-values-spec : {M : Type 1} → statement M
-put-values-spec =
+pub put_values_spec : {M : Type 1} → statement M
+put_values_spec =
     tie.close
     (tie.spec
     invariant-loop

@@ -79,8 +79,8 @@ returns-2 c =
     let q = h.before.before.requires in
     list-closed _ _ _ q.0 q.1 _ h.loop.phase _ h.loop.invariant.2 (omega arith) _ c.is-opened.ensures
 
-pub is-loss-list-spec : {M : Type 1} → statement M
-is-loss-list-spec =
+pub is_loss_list_spec : {M : Type 1} → statement M
+is_loss_list_spec =
     tie.close
     (tie.spec
     invariant-loop

@@ -33,7 +33,7 @@ returns-4 c =
     let s = c.before.before.before.before.args in
     opens-taken s.count s.at s.d s.phase (not_opened s.phase c.before.before.match.keys2) (omega (arith, c.before.least-gap.ensures)) (omega arith)
 
-pub opened-turn-spec : {M : Type 1} → statement M
-opened-turn-spec =
+pub opened_turn_spec : {M : Type 1} → statement M
+opened_turn_spec =
     tie.close
     (tie.spec returns enum_told returns-2 least-gap-requires add-if2 returns-3 sub-t6 returns-4)

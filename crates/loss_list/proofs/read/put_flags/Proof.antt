@@ -127,8 +127,8 @@ returns-2 c =
     let q = h.before.before.before.requires in
     puts-flags _ _ _ q.0 q.1 _ q.2 q.3 _ h.loop.phase _ _ _ h.loop.invariant.4 (omega arith) h.loop.invariant.1 _ c.before.before.fill3.ensures
 
-pub put-flags-spec : {M : Type 1} → statement M
-put-flags-spec =
+pub put_flags_spec : {M : Type 1} → statement M
+put_flags_spec =
     tie.close
     (tie.spec
     invariant-loop

@@ -64,8 +64,8 @@ returns-6 c =
     let s = c.before.before.before.before.before.args in
     single-taken s.count s.at s.d s.phase (not_opened s.phase c.before.before.before.match.keys2) (other c.before.before) (omega (arith, c.before.least-gap.ensures)) (omega arith)
 
-pub single-turn-spec : {M : Type 1} → statement M
-single-turn-spec =
+pub single_turn_spec : {M : Type 1} → statement M
+single_turn_spec =
     tie.close
     (tie.spec
     returns

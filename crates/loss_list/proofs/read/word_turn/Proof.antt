@@ -32,8 +32,8 @@ returns-2 c =
     let m = mark-opens s.first s.word _ _ (omega arith) c.before.before.is-wire-number.ensures c.before.if1.false c.before.before.before.distance.ensures in
     c.opened-turn.ensures ∙ ap (turn s.count s.at (phase_of s.phase)) m
 
-pub word-turn-spec : {M : Type 1} → statement M
-word-turn-spec =
+pub word_turn_spec : {M : Type 1} → statement M
+word_turn_spec =
     tie.close
     (tie.spec
     distance-requires

@@ -50,8 +50,8 @@ returns-2 c = record {
   after = λ ok. without-exchanged _ _ _ _ (c.before.find.ensures.cell _ ok) c.if1.false;
 }
 
-pub exchange-spec : {M : Type 1} → statement M
-exchange-spec =
+pub exchange_spec : {M : Type 1} → statement M
+exchange_spec =
     tie.close
     (tie.spec
     find-requires

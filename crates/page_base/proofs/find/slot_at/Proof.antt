@@ -56,8 +56,8 @@ returns-5 c = record {
   cell = λ vs ok. sparse-none _ _ _ vs ok _ (omega arith) c.before.before.before.before.if1.false _ c.before.sparse-slot-at.ensures c.if4.false;
 }
 
-pub slot-at-spec : {M : Type 1} → statement M
-slot-at-spec =
+pub slot_at_spec : {M : Type 1} → statement M
+slot_at_spec =
     tie.close
     (tie.spec
     bit-requires

@@ -67,8 +67,8 @@ loop-again c = (
 returns-2 : tie.Need-returns-2 invariant-loop decreases-loop
 returns-2 c = found_none _ _ _ _ (λ k l. c.before.loop.invariant.1 k (omega arith))
 
-pub sparse-slot-at-spec : {M : Type 1} → statement M
-sparse-slot-at-spec =
+pub sparse_slot_at_spec : {M : Type 1} → statement M
+sparse_slot_at_spec =
     tie.close
     (tie.spec
     invariant-loop

@@ -12,5 +12,5 @@ sub-result c = search rules
 returns : tie.Need-returns
 returns c = lowest-cleared _ c.ranges.w.fits c.requires
 
-pub clear-lowest-spec : {M : Type 1} → statement M
-clear-lowest-spec = tie.close (tie.spec sub-result returns)
+pub clear_lowest_spec : {M : Type 1} → statement M
+clear_lowest_spec = tie.close (tie.spec sub-result returns)

@@ -75,8 +75,8 @@ returns c =
     let all : c.before.loop.i ≡ s.args.n = omega arith in
     c.before.loop.invariant.2 ∙ ap (paste s.args.returned.now s.args.at (drop s.args.from s.args.values.now)) all
 
-pub copy-values-spec : {M : Type 1} → statement M
-copy-values-spec =
+pub copy_values_spec : {M : Type 1} → statement M
+copy_values_spec =
     tie.close
     (tie.spec
     invariant-loop

@@ -34,8 +34,8 @@ same-length-2 c = search rules
 returns-2 : tie.Need-returns-2
 returns-2 c = search rules
 
-pub drain-spec : {M : Type 1} → statement M
-drain-spec =
+pub drain_spec : {M : Type 1} → statement M
+drain_spec =
     tie.close
     (tie.spec
     drain-dense-requires

@@ -146,8 +146,8 @@ returns c =
     ⊎_elim (λ a. dense-empty _ _ _ _ _ _ (omega arith) (omega arith) _ _ _ i a.left)
     (λ b. dense-ends _ _ _ _ _ _ (omega arith) (omega arith) _ _ _ i b.1.taken) c.loop-test.branch
 
-pub drain-dense-spec : {M : Type 1} → statement M
-drain-dense-spec =
+pub drain_dense_spec : {M : Type 1} → statement M
+drain_dense_spec =
     tie.close
     (tie.spec
     invariant-loop

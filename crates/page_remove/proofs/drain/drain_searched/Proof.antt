@@ -103,8 +103,8 @@ returns-3 c =
     draining-unsound _ _ _ _ _ _ _ _ _ _ _ _ c.before.before.before.before.before.loop.invariant (omega arith) c.before.before.before.if1.false _ _ c.before.before.lowest.ensures c.if2.true
     c.before.slot_at.ensures
 
-pub drain-searched-spec : {M : Type 1} → statement M
-drain-searched-spec =
+pub drain_searched_spec : {M : Type 1} → statement M
+drain_searched_spec =
     tie.close
     (tie.spec
     invariant-loop

@@ -25,5 +25,5 @@ returns c = search rules
 returns-2 : tie.Need-returns-2
 returns-2 c = search rules
 
-pub run-length-spec : {M : Type 1} → statement M
-run-length-spec = tie.close (tie.spec lowest-requires sub-n returns returns-2)
+pub run_length_spec : {M : Type 1} → statement M
+run_length_spec = tie.close (tie.spec lowest-requires sub-n returns returns-2)

@@ -46,8 +46,8 @@ returns c =
       changes = subst (λ (x : BlockWords). Inserted s.w x s.page s.promoted c.before.before.before.before.before.before.before.before.before.before.inserted.result) c.before.before.before.before.before.before.before.before.before.before.before.block_words.ensures c.before.before.before.before.before.before.before.before.before.before.inserted.ensures;
     }
 
-pub store-inserted-spec : {M : Type 1} → statement M
-store-inserted-spec =
+pub store_inserted_spec : {M : Type 1} → statement M
+store_inserted_spec =
     tie.close
     (tie.spec
     block-words-requires

@@ -55,8 +55,8 @@ returns c =
           (subst (λ (b : Bool). Released s.w c.before.before.before.before.before.before.before.before.before.before.before.before.block_words.result s.page b s.count r) c.before.before.before.before.before.before.before.before.before.before.before.holds.ensures c.before.before.before.before.before.before.before.before.before.before.released.ensures);
     }
 
-pub store-released-spec : {M : Type 1} → statement M
-store-released-spec =
+pub store_released_spec : {M : Type 1} → statement M
+store_released_spec =
     tie.close
     (tie.spec
     block-words-requires

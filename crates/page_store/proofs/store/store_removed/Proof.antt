@@ -38,8 +38,8 @@ returns c =
       changes = subst (λ (x : BlockWords). Removed s.w x s.page s.left s.cause s.count r.removed.result) b.block_words.ensures r.removed.ensures;
     }
 
-pub store-removed-spec : {M : Type 1} → statement M
-store-removed-spec =
+pub store_removed_spec : {M : Type 1} → statement M
+store_removed_spec =
     tie.close
     (tie.spec
     block-words-requires

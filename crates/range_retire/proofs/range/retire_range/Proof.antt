@@ -135,8 +135,8 @@ returns-3 c =
     let a = s.args in
     range-two a.w (memory a.sequences.now a.values.now a.pages.now a.blocks.now) a.returned.now a.start a.count _ _ _ _ c.before.before.before.before.before.before.before.before.before.before.before.before.before.before.before.before.before.capacity.ensures c.before.before.before.before.before.before.before.before.before.before.before.before.before.before.before.before.if1.false c.before.before.before.before.before.before.before.before.before.before.retire-round.ensures
 
-pub retire-range-spec : {M : Type 1} → statement M
-retire-range-spec =
+pub retire_range_spec : {M : Type 1} → statement M
+retire_range_spec =
     tie.close
     (tie.spec
     capacity-requires

@@ -65,8 +65,8 @@ returns c =
     round-two a.w (memory a.sequences.now a.values.now a.pages.now a.blocks.now) a.returned.now a.start a.end a.rest _ _ _ _ _ _ s.requires.1.0 s.requires.1.1 s.requires.1.2 _ (omega arith)
     c.before.before.before.before.before.before.before.before.before.before.before.before.before.before.before.before.before.before.before.before.before.before.before.before.before.before.before.before.before.before.before.before.retire-span.ensures c.before.before.before.before.before.before.before.before.before.before.before.before.before.before.before.retire-span2.ensures _ refl
 
-pub retire-round-spec : {M : Type 1} → statement M
-retire-round-spec =
+pub retire_round_spec : {M : Type 1} → statement M
+retire_round_spec =
     tie.close
     (tie.spec
     retire-span-requires

@@ -44,8 +44,8 @@ returns c =
     drains-page a.n a.page a.slots a.at a.sequences.now a.values.now a.pages.now a.returned.now _ _ _ _ _
     c.before.before.before.before.before.before.page-words.ensures c.before.before.before.before.before.page-cells.ensures c.before.before.before.before.page-cells2.ensures c.before.before.drain.ensures
 
-pub drain-slots-spec : {M : Type 1} → statement M
-drain-slots-spec =
+pub drain_slots_spec : {M : Type 1} → statement M
+drain_slots_spec =
     tie.close
     (tie.spec
     page-words-requires

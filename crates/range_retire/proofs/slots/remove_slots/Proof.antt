@@ -78,8 +78,8 @@ returns-3 c =
     removes-slots a.w a.sequences.now a.values.now a.pages.now a.blocks.now a.returned.now a.page a.slots a.at s.requires.1.0 _ c.before.before.before.before.before.before.before.before.before.before.before.before.before.before.before.before.before.before.before.before.before.page-words.ensures _ c.before.before.before.before.before.before.before.before.before.before.before.before.before.before.before.before.before.page-retired.ensures
     c.before.before.before.before.before.before.before.before.before.before.before.before.before.before.before.before.if2.false c.before.before.before.before.before.before.before.before.before.before.before.before.before.before.before.before.before.before.before.if1.false _ _ _ c.before.before.before.before.before.before.before.before.before.before.take-slots.ensures
 
-pub remove-slots-spec : {M : Type 1} → statement M
-remove-slots-spec =
+pub remove_slots_spec : {M : Type 1} → statement M
+remove_slots_spec =
     tie.close
     (tie.spec
     page-words-requires

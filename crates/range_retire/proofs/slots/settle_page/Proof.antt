@@ -85,8 +85,8 @@ returns c =
       settled = lent_both g ss vs (λ (q l : List ℕ). settled_of x.result xs ys ≡ settle_page_of s.args.demote_at (page s.args.words q l)) x.ensures;
     }
 
-pub settle-page-spec : {M : Type 1} → statement M
-settle-page-spec =
+pub settle_page_spec : {M : Type 1} → statement M
+settle_page_spec =
     tie.close
     (tie.spec
     mul-from

@@ -62,8 +62,8 @@ returns c =
     takes-slots a.w a.sequences.now a.values.now a.pages.now a.blocks.now a.returned.now a.page a.slots a.at _ _ _ _ _ _ _ _
     s.pre.0 s.pre.1.0 s.pre.1.1 d.drain-slots.ensures t.settle-page.ensures r.store-removed.ensures
 
-pub take-slots-spec : {M : Type 1} → statement M
-take-slots-spec =
+pub take_slots_spec : {M : Type 1} → statement M
+take_slots_spec =
     tie.close
     (tie.spec
     cast-drain-slots

@@ -50,8 +50,8 @@ returns c =
     let a = s.args in
     span-across a.w (memory a.sequences.now a.values.now a.pages.now a.blocks.now) a.at a.returned.now a.start a.end s.requires.1.0 s.requires.1.1 s.requires.0 _ _ _ _ _ _ c.before.before.before.before.before.before.before.before.before.before.before.before.before.before.before.before.retire-ends.ensures _ _ c.before.before.retire-pages.ensures
 
-pub retire-across-spec : {M : Type 1} → statement M
-retire-across-spec =
+pub retire_across_spec : {M : Type 1} → statement M
+retire_across_spec =
     tie.close
     (tie.spec
     retire-ends-requires

@@ -69,8 +69,8 @@ returns c =
     performs-then (λ (v : Window). first_page v a.start) (λ (v : Window). last_page v a.end) (partial a.start) (partial a.end) a.w (memory a.sequences.now a.values.now a.pages.now a.blocks.now) a.at a.returned.now _ _ _ _ _ _
     (retiring-begun a.w (memory a.sequences.now a.values.now a.pages.now a.blocks.now) a.start a.end s.requires.1.0 s.requires.1.1) c.before.before.before.before.before.before.before.before.before.before.before.before.before.before.before.before.before.before.before.before.before.before.before.before.before.before.before.before.before.before.before.before.before.retire-head.ensures c.before.before.before.before.before.before.before.before.before.before.before.before.before.before.before.retire-tail.ensures
 
-pub retire-ends-spec : {M : Type 1} → statement M
-retire-ends-spec =
+pub retire_ends_spec : {M : Type 1} → statement M
+retire_ends_spec =
     tie.close
     (tie.spec
     retire-head-requires

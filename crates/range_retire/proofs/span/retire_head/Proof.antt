@@ -51,8 +51,8 @@ returns-2 c =
     let a = c.before.before.before.before.before.before.before.before.before.before.before.before.before.before.before.before.before.before.before.before.before.before.before.args in
     head-part a.w (memory a.sequences.now a.values.now a.pages.now a.blocks.now) a.at a.returned.now a.start c.before.before.before.before.before.before.before.before.before.before.before.before.before.before.before.before.before.if1.false _ _ _ _ c.before.before.before.before.before.before.before.before.before.before.remove-slots.ensures c.before.before.before.before.before.before.before.before.before.before.before.before.before.before.before.before.span.ensures
 
-pub retire-head-spec : {M : Type 1} → statement M
-retire-head-spec =
+pub retire_head_spec : {M : Type 1} → statement M
+retire_head_spec =
     tie.close
     (tie.spec
     returns

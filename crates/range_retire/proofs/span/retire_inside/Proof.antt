@@ -57,8 +57,8 @@ returns c =
     let a = s.args in
     span-inside a.w (memory a.sequences.now a.values.now a.pages.now a.blocks.now) a.at a.returned.now a.start a.end _ _ _ _ s.requires.1.0 s.requires.1.1 c.before.before.before.before.before.before.before.before.before.before.before.before.before.before.before.before.span.ensures c.before.before.before.before.before.before.before.before.before.before.remove-slots.ensures
 
-pub retire-inside-spec : {M : Type 1} → statement M
-retire-inside-spec =
+pub retire_inside_spec : {M : Type 1} → statement M
+retire_inside_spec =
     tie.close
     (tie.spec
     sub-span

@@ -76,8 +76,8 @@ returns-2 c =
     let a = c.before.before.before.before.before.before.before.before.before.before.before.before.before.before.before.before.before.before.before.before.before.before.args in
     performs-as _ a.w (memory a.sequences.now a.values.now a.pages.now a.blocks.now) a.at a.returned.now _ _ _ _ _ _ (omega (arith, most-across a.start a.end c.before.before.before.before.before.before.before.before.before.before.before.before.before.before.before.before.if1.false)) refl c.before.before.before.before.before.before.before.before.before.before.retire-across.ensures
 
-pub retire-span-spec : {M : Type 1} → statement M
-retire-span-spec =
+pub retire_span_spec : {M : Type 1} → statement M
+retire_span_spec =
     tie.close
     (tie.spec
     sub-if1

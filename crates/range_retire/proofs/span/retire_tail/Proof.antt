@@ -51,8 +51,8 @@ returns-2 c =
     let a = c.before.before.before.before.before.before.before.before.before.before.before.before.before.before.before.before.before.before.before.before.before.before.before.args in
     tail-part a.w (memory a.sequences.now a.values.now a.pages.now a.blocks.now) a.at a.returned.now a.end c.before.before.before.before.before.before.before.before.before.before.before.before.before.before.before.before.before.if1.false _ _ _ _ c.before.before.before.before.before.before.before.before.before.before.remove-slots.ensures c.before.before.before.before.before.before.before.before.before.before.before.before.before.before.before.before.span.ensures
 
-pub retire-tail-spec : {M : Type 1} → statement M
-retire-tail-spec =
+pub retire_tail_spec : {M : Type 1} → statement M
+retire_tail_spec =
     tie.close
     (tie.spec
     returns

@@ -196,8 +196,8 @@ returns-4 c =
     let a = (s p).args in
     passing-ends a.w a.sequences.now a.values.now a.pages.now a.blocks.now a.returned.now a.at a.limit _ _ _ _ _ _ p.loop.invariant (inr (c.before.before.if1.true, c.if2.true))
 
-pub release-pages-spec : {M : Type 1} → statement M
-release-pages-spec =
+pub release_pages_spec : {M : Type 1} → statement M
+release_pages_spec =
     tie.close
     (tie.spec
     invariant-loop

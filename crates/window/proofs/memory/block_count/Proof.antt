@@ -14,5 +14,5 @@ add-result c = omega (arith, c.page-count.ensures, page-count-le c.before.args.w
 returns : tie.Need-returns
 returns c = search rules
 
-pub block-count-spec : {M : Type 1} → statement M
-block-count-spec = tie.close (tie.spec page-count-requires add-result returns)
+pub block_count_spec : {M : Type 1} → statement M
+block_count_spec = tie.close (tie.spec page-count-requires add-result returns)

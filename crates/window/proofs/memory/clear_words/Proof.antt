@@ -48,8 +48,8 @@ returns c =
     let same : c.before.loop.i ≡ c.before.before.args.n = omega arith in
     c.before.loop.invariant.2 ∙ ap (λ (k : ℕ). zeroed k c.before.before.args.words.now) same
 
-pub clear-words-spec : {M : Type 1} → statement M
-clear-words-spec =
+pub clear_words_spec : {M : Type 1} → statement M
+clear_words_spec =
     tie.close
     (tie.spec
     invariant-loop

@@ -31,6 +31,6 @@ sub-result c =
 returns-2 : tie.Need-returns-2
 returns-2 c = ap (λ (x : ℕ). x - 1) (capacity-code _ c.if1.false c.before.requires)
 
-pub mask-spec : {M : Type 1} → statement M
-mask-spec =
+pub mask_spec : {M : Type 1} → statement M
+mask_spec =
     tie.close (tie.spec returns sub-bits sub-bits-2 cast-bits shl-result sub-result returns-2)

@@ -10,5 +10,5 @@ mask-requires c κs = search rules
 returns : tie.Need-returns
 returns c = rw c.mask.ensures (position-code _ _)
 
-pub position-spec : {M : Type 1} → statement M
-position-spec = tie.close (tie.spec mask-requires returns)
+pub position_spec : {M : Type 1} → statement M
+position_spec = tie.close (tie.spec mask-requires returns)

@@ -35,7 +35,7 @@ returns-2 : tie.Need-returns-2
 unfolding fits
 returns-2 c = rw (passed c.before.before) c.long-enough.ensures
 
-pub fits-spec : {M : Type 1} → statement M
-fits-spec =
+pub fits_spec : {M : Type 1} → statement M
+fits_spec =
     tie.close
     (tie.spec limits-requires enum-known-verdict returns enum_told long-enough-requires returns-2)

@@ -16,5 +16,5 @@ returns-2 : tie.Need-returns-2
 unfolding fits_with_list_of
 returns-2 c = rw (le-leb 384 c.before.before.args.returned c.before.if1.false) c.fits2.ensures
 
-pub fits-with-list-spec : {M : Type 1} → statement M
-fits-with-list-spec = tie.close (tie.spec returns fits-requires returns-2)
+pub fits_with_list_spec : {M : Type 1} → statement M
+fits_with_list_spec = tie.close (tie.spec returns fits-requires returns-2)

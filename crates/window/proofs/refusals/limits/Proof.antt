@@ -43,5 +43,5 @@ returns-4 c =
       le-ltb _ _ c.if5.false,
     )
 
-pub limits-spec : {M : Type 1} → statement M
-limits-spec = tie.close (tie.spec returns returns-2 returns-3 returns-4)
+pub limits_spec : {M : Type 1} → statement M
+limits_spec = tie.close (tie.spec returns returns-2 returns-3 returns-4)

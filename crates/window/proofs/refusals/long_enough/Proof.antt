@@ -39,7 +39,7 @@ returns-4 c =
     blocks-decide _ _ _ _ _ _ e.before.before.capacity.ensures _ _ p.page-count.ensures c.block-count.ensures
     e.before.if1.false e.if2.false c.before.if3.false
 
-pub long-enough-spec : {M : Type 1} → statement M
-long-enough-spec =
+pub long_enough_spec : {M : Type 1} → statement M
+long_enough_spec =
     tie.close
     (tie.spec capacity-requires returns returns-2 page-count-requires mul-if3 returns-3 block-count-requires mul-result returns-4)

@@ -27,6 +27,6 @@ returns c = record {
   turns = c.turns-after.ensures;
 }
 
-pub put-out-spec : {M : Type 1} → statement M
-put-out-spec =
+pub put_out_spec : {M : Type 1} → statement M
+put_out_spec =
     tie.close (tie.spec tell-first-requires write-part-requires turns-after-requires returns)

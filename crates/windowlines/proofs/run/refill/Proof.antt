@@ -40,5 +40,5 @@ returns-3 c = record {
   ended = λ e. absurd (omega (arith, e, c.if2.false));
 }
 
-pub refill-spec : {M : Type 1} → statement M
-refill-spec = tie.close (tie.spec returns read-some-requires returns-2 returns-3)
+pub refill_spec : {M : Type 1} → statement M
+refill_spec = tie.close (tie.spec returns read-some-requires returns-2 returns-3)

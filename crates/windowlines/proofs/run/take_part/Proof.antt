@@ -30,7 +30,7 @@ returns c =
     let whole : s.args.r.n - 0 ≡ s.args.r.n = omega arith in
     rw (whole, length-take-le s.args.r.n s.args.input.now s.requires.1.0) at c.take-lines.ensures
 
-pub take-part-spec : {M : Type 1} → statement M
-take-part-spec =
+pub take_part_spec : {M : Type 1} → statement M
+take_part_spec =
     tie.close
     (tie.spec sub-take-lines part-take-lines-start part-take-lines-end take-lines-requires returns)

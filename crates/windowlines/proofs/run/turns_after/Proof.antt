@@ -20,5 +20,5 @@ sub-result c = search rules
 returns-3 : tie.Need-returns-3
 returns-3 c = simp c.before.if1.false (omega arith)
 
-pub turns-after-spec : {M : Type 1} → statement M
-turns-after-spec = tie.close (tie.spec returns returns-2 sub-result returns-3)
+pub turns_after_spec : {M : Type 1} → statement M
+turns_after_spec = tie.close (tie.spec returns returns-2 sub-result returns-3)
