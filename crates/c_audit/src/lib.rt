@@ -2,6 +2,7 @@
 // which stranger uses, the removal that take_front begins with, and the advance of the point keep their one caller there.
 #![tactic(auto)]
 
+ghost use Rattle.window.specs.Lent.{lent, lent_mut};
 ghost use Rattle.model.specs.Calls.{stranger as stranger_of, check as check_of, set_base, take_front, ask};
 ghost use Rattle.c_calls.specs.Numbers.{NumbersMeetBy};
 
@@ -22,7 +23,7 @@ pub extern "C" fn packet_window_stranger(
     first: u32,
     last: u32,
 ) -> NumberedStep
-    ensures { NumbersMeetBy (ask (stranger_of first last)) w sequences values pages blocks result }
+    ensures { NumbersMeetBy (ask (stranger_of first last)) w (lent sequences) (lent values) (lent pages) (lent blocks) result }
 {
     in_numbers(stranger(w, sequences, values, pages, blocks, first, last))
 }
@@ -35,7 +36,7 @@ pub extern "C" fn packet_window_check(
     pages: &[u64],
     blocks: &[u64],
 ) -> NumberedStep
-    ensures { NumbersMeetBy (ask check_of) w sequences values pages blocks result }
+    ensures { NumbersMeetBy (ask check_of) w (lent sequences) (lent values) (lent pages) (lent blocks) result }
 {
     in_numbers(check(w, sequences, values, pages, blocks))
 }
@@ -49,7 +50,7 @@ pub extern "C" fn packet_window_set_base(
     blocks: &[u64],
     base: u32,
 ) -> NumberedStep
-    ensures { NumbersMeetBy (set_base base) w sequences values pages blocks result }
+    ensures { NumbersMeetBy (set_base base) w (lent sequences) (lent values) (lent pages) (lent blocks) result }
 {
     in_numbers(set_base(w, sequences, values, pages, blocks, base))
 }
@@ -62,7 +63,7 @@ pub extern "C" fn packet_window_take_front(
     pages: &mut [u64],
     blocks: &mut [u64],
 ) -> NumberedStep
-    ensures { NumbersMeetBy take_front w sequences values pages blocks result }
+    ensures { NumbersMeetBy take_front w (lent_mut sequences) (lent_mut values) (lent_mut pages) (lent_mut blocks) result }
 {
     in_numbers(take_front(w, sequences, values, pages, blocks))
 }

@@ -44,7 +44,7 @@ NumbersMeetBy c w ss vs pages blocks r = NumbersMeet c (state_of w (found_in ss 
 
 abbrev pub NumbersMeetInto : (Bool → Call) → AdaptiveReceiverPacketWindow → (sequences values pages blocks returned : Lent) → NumberedStep → Type 0
 NumbersMeetInto c w ss vs pages blocks l r =
-    NumbersMeet (c (leb 384 (length l.entry.now))) (state_of w (found_in ss vs pages blocks)) l.entry.now r (left_in ss vs pages blocks) l.exit.now
+    NumbersMeet (c (leb 384 (length l.entry))) (state_of w (found_in ss vs pages blocks)) l.entry r (left_in ss vs pages blocks) l.exit
 
 -- ---- new
 

@@ -6,6 +6,7 @@ pub mod retire;
 pub mod version;
 
 ghost use Rattle.std.specs.Prelude.{◌≡◌};
+ghost use Rattle.window.specs.Lent.{lent, lent_mut};
 ghost use Rattle.window.specs.New.{fresh, answer_of as new_answer_of};
 ghost use Rattle.model.specs.Calls.{get as get_of, successor_after, first_from, iter as iter_of, insert as insert_of, exchange as exchange_of, remove as remove_of, ask};
 ghost use Rattle.call_base.specs.Answers.{answer_of};
@@ -125,7 +126,7 @@ pub extern "C" fn packet_window_new(
     n: u32,
     demote_at: u32,
 ) -> NumberedStep
-    ensures { CreatesBy window_size n demote_at sequences values pages blocks result }
+    ensures { CreatesBy window_size n demote_at (lent_mut sequences) (lent_mut values) (lent_mut pages) (lent_mut blocks) result }
 {
     created(AdaptiveReceiverPacketWindow::new(
         sequences,
@@ -147,7 +148,7 @@ pub extern "C" fn packet_window_get(
     blocks: &[u64],
     sequence: u32,
 ) -> NumberedStep
-    ensures { NumbersMeetBy (ask (get_of sequence)) w sequences values pages blocks result }
+    ensures { NumbersMeetBy (ask (get_of sequence)) w (lent sequences) (lent values) (lent pages) (lent blocks) result }
 {
     in_numbers(get(w, sequences, values, pages, blocks, sequence))
 }
@@ -161,7 +162,7 @@ pub extern "C" fn packet_window_successor_after(
     blocks: &[u64],
     sequence: u32,
 ) -> NumberedStep
-    ensures { NumbersMeetBy (ask (successor_after sequence)) w sequences values pages blocks result }
+    ensures { NumbersMeetBy (ask (successor_after sequence)) w (lent sequences) (lent values) (lent pages) (lent blocks) result }
 {
     in_numbers(successor_after(w, sequences, values, pages, blocks, sequence))
 }
@@ -175,7 +176,7 @@ pub extern "C" fn packet_window_first_from(
     blocks: &[u64],
     sequence: u32,
 ) -> NumberedStep
-    ensures { NumbersMeetBy (ask (first_from sequence)) w sequences values pages blocks result }
+    ensures { NumbersMeetBy (ask (first_from sequence)) w (lent sequences) (lent values) (lent pages) (lent blocks) result }
 {
     in_numbers(first_from(w, sequences, values, pages, blocks, sequence))
 }
@@ -189,7 +190,7 @@ pub extern "C" fn packet_window_iter(
     blocks: &[u64],
     cell: u32,
 ) -> NumberedStep
-    ensures { NumbersMeetBy (ask (iter_of cell)) w sequences values pages blocks result }
+    ensures { NumbersMeetBy (ask (iter_of cell)) w (lent sequences) (lent values) (lent pages) (lent blocks) result }
 {
     in_numbers(iter(w, sequences, values, pages, blocks, cell))
 }
@@ -204,7 +205,7 @@ pub extern "C" fn packet_window_exchange(
     sequence: u32,
     value: u32,
 ) -> NumberedStep
-    ensures { NumbersMeetBy (exchange_of sequence value) w sequences values pages blocks result }
+    ensures { NumbersMeetBy (exchange_of sequence value) w (lent sequences) (lent_mut values) (lent pages) (lent blocks) result }
 {
     in_numbers(exchange(w, sequences, values, pages, blocks, sequence, value))
 }
@@ -218,7 +219,7 @@ pub extern "C" fn packet_window_remove(
     blocks: &mut [u64],
     sequence: u32,
 ) -> NumberedStep
-    ensures { NumbersMeetBy (remove_of sequence) w sequences values pages blocks result }
+    ensures { NumbersMeetBy (remove_of sequence) w (lent_mut sequences) (lent_mut values) (lent_mut pages) (lent_mut blocks) result }
 {
     in_numbers(remove(w, sequences, values, pages, blocks, sequence))
 }
@@ -234,7 +235,7 @@ pub extern "C" fn packet_window_insert(
     sequence: u32,
     value: u32,
 ) -> NumberedStep
-    ensures { NumbersMeetInto (insert_of sequence value) w sequences values pages blocks returned result }
+    ensures { NumbersMeetInto (insert_of sequence value) w (lent_mut sequences) (lent_mut values) (lent_mut pages) (lent_mut blocks) (lent_mut returned) result }
 {
     in_numbers(insert(
         w, sequences, values, pages, blocks, returned, sequence, value,

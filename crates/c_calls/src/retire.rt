@@ -1,4 +1,5 @@
 // The calls that remove a range, clear and release, as lib.rt has the others.
+ghost use Rattle.window.specs.Lent.{lent, lent_mut};
 ghost use Rattle.model.specs.Calls.{remove_range, clear as clear_of, clear_bounded, release_retired};
 ghost use Rattle.c_calls.specs.Numbers.{NumbersMeetInto};
 
@@ -20,7 +21,7 @@ pub extern "C" fn packet_window_remove_range(
     first: u32,
     last: u32,
 ) -> NumberedStep
-    ensures { NumbersMeetInto (remove_range first last) w sequences values pages blocks returned result }
+    ensures { NumbersMeetInto (remove_range first last) w (lent_mut sequences) (lent_mut values) (lent_mut pages) (lent_mut blocks) (lent_mut returned) result }
 {
     in_numbers(remove_range(w, sequences, values, pages, blocks, returned, first, last))
 }
@@ -35,7 +36,7 @@ pub extern "C" fn packet_window_release_retired(
     returned: &mut [u32],
     budget: u32,
 ) -> NumberedStep
-    ensures { NumbersMeetInto (release_retired budget) w sequences values pages blocks returned result }
+    ensures { NumbersMeetInto (release_retired budget) w (lent sequences) (lent values) (lent_mut pages) (lent_mut blocks) (lent_mut returned) result }
 {
     in_numbers(release_retired(w, sequences, values, pages, blocks, returned, budget))
 }
@@ -49,7 +50,7 @@ pub extern "C" fn packet_window_clear(
     blocks: &mut [u64],
     returned: &mut [u32],
 ) -> NumberedStep
-    ensures { NumbersMeetInto clear_of w sequences values pages blocks returned result }
+    ensures { NumbersMeetInto clear_of w (lent sequences) (lent values) (lent_mut pages) (lent_mut blocks) (lent_mut returned) result }
 {
     in_numbers(clear(w, sequences, values, pages, blocks, returned))
 }
@@ -64,7 +65,7 @@ pub extern "C" fn packet_window_clear_bounded(
     returned: &mut [u32],
     number: u32,
 ) -> NumberedStep
-    ensures { NumbersMeetInto (clear_bounded number) w sequences values pages blocks returned result }
+    ensures { NumbersMeetInto (clear_bounded number) w (lent sequences) (lent values) (lent_mut pages) (lent_mut blocks) (lent_mut returned) result }
 {
     in_numbers(clear_bounded(w, sequences, values, pages, blocks, returned, number))
 }

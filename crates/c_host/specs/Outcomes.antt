@@ -29,5 +29,5 @@ OutcomeMeetsBy c w ss vs pages blocks r = OutcomeMeets c (state_of w.entry.now (
 
 abbrev pub OutcomeMeetsInto : (Bool → Call) → LentHeader → (sequences values pages blocks returned : Lent) → NumberedOutcome → Type 0
 OutcomeMeetsInto c w ss vs pages blocks l r =
-    OutcomeMeets (c (leb 384 (length l.entry.now))) (state_of w.entry.now (found_in ss vs pages blocks)) l.entry.now
-    w.exit.now r (left_in ss vs pages blocks) l.exit.now
+    OutcomeMeets (c (leb 384 (length l.entry))) (state_of w.entry.now (found_in ss vs pages blocks)) l.entry
+    w.exit.now r (left_in ss vs pages blocks) l.exit

@@ -2,6 +2,7 @@
 // into the library.
 #![tactic(auto)]
 
+ghost use Rattle.window.specs.Lent.{lent, lent_mut};
 ghost use Rattle.model.specs.Calls.{insert as insert_of, remove as remove_of, release_retired};
 ghost use Rattle.c_host.specs.Outcomes.{SameOutcome, OutcomeMeetsBy, OutcomeMeetsInto};
 
@@ -38,7 +39,7 @@ pub extern "C" fn packet_window_host_insert(
     sequence: u32,
     value: u32,
 ) -> NumberedOutcome
-    ensures { OutcomeMeetsInto (insert_of sequence value) w sequences values pages blocks returned result }
+    ensures { OutcomeMeetsInto (insert_of sequence value) w (lent_mut sequences) (lent_mut values) (lent_mut pages) (lent_mut blocks) (lent_mut returned) result }
 {
     outcome_in_numbers(call_host::insert(
         w, sequences, values, pages, blocks, returned, sequence, value,
@@ -54,7 +55,7 @@ pub extern "C" fn packet_window_host_remove(
     blocks: &mut [u64],
     sequence: u32,
 ) -> NumberedOutcome
-    ensures { OutcomeMeetsBy (remove_of sequence) w sequences values pages blocks result }
+    ensures { OutcomeMeetsBy (remove_of sequence) w (lent_mut sequences) (lent_mut values) (lent_mut pages) (lent_mut blocks) result }
 {
     outcome_in_numbers(call_host::remove(w, sequences, values, pages, blocks, sequence))
 }
@@ -69,7 +70,7 @@ pub extern "C" fn packet_window_host_release_retired(
     returned: &mut [u32],
     budget: u32,
 ) -> NumberedOutcome
-    ensures { OutcomeMeetsInto (release_retired budget) w sequences values pages blocks returned result }
+    ensures { OutcomeMeetsInto (release_retired budget) w (lent sequences) (lent values) (lent_mut pages) (lent_mut blocks) (lent_mut returned) result }
 {
     outcome_in_numbers(call_host::release_retired(
         w, sequences, values, pages, blocks, returned, budget,

@@ -18,8 +18,8 @@ pub record InNumbers (Asked : Left → Type 0) (r : NumberedStep) (m : Memory) :
 
 abbrev pub NumbersWriteLossesBy : (first last : ℕ) → AdaptiveReceiverPacketWindow → (sequences values pages blocks words : Lent) → NumberedStep → Type 0
 NumbersWriteLossesBy first last w ss vs pages blocks words r =
-    InNumbers (λ (left : Left). WritesLosses first last (state_of w (found_in ss vs pages blocks)) words.entry.now left words.exit.now) r (left_in ss vs pages blocks)
+    InNumbers (λ (left : Left). WritesLosses first last (state_of w (found_in ss vs pages blocks)) words.entry left words.exit) r (left_in ss vs pages blocks)
 
 abbrev pub NumbersReadLossesBy : (first last : ℕ) → AdaptiveReceiverPacketWindow → (sequences values pages blocks words lost : Lent) → NumberedStep → Type 0
 NumbersReadLossesBy first last w ss vs pages blocks words lost r =
-    InNumbers (λ (left : Left). ReadsLosses first last words.entry.now (state_of w (found_in ss vs pages blocks)) lost.entry.now left lost.exit.now) r (left_in ss vs pages blocks)
+    InNumbers (λ (left : Left). ReadsLosses first last words.entry (state_of w (found_in ss vs pages blocks)) lost.entry left lost.exit) r (left_in ss vs pages blocks)

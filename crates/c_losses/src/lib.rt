@@ -1,6 +1,7 @@
 // write_losses and read_losses in C's calling convention, as the calls of c_calls: the library's fourth object.
 #![tactic(auto)]
 
+ghost use Rattle.window.specs.Lent.{lent, lent_mut};
 ghost use Rattle.c_losses.specs.Promises.{NumbersWriteLossesBy, NumbersReadLossesBy};
 
 use c_calls::{NumberedStep, in_numbers};
@@ -18,7 +19,7 @@ pub extern "C" fn packet_window_write_losses(
     first: u32,
     last: u32,
 ) -> NumberedStep
-    ensures { NumbersWriteLossesBy first last w sequences values pages blocks words result }
+    ensures { NumbersWriteLossesBy first last w (lent sequences) (lent values) (lent pages) (lent blocks) (lent_mut words) result }
 {
     in_numbers(write_losses(w, sequences, values, pages, blocks, words, first, last))
 }
@@ -35,7 +36,7 @@ pub extern "C" fn packet_window_read_losses(
     first: u32,
     last: u32,
 ) -> NumberedStep
-    ensures { NumbersReadLossesBy first last w sequences values pages blocks words lost result }
+    ensures { NumbersReadLossesBy first last w (lent sequences) (lent values) (lent pages) (lent blocks) (lent words) (lent_mut lost) result }
 {
     in_numbers(read_losses(
         w, sequences, values, pages, blocks, words, lost, first, last,

@@ -61,4 +61,4 @@ MeetsBy c w ss vs pages blocks r = Meets c (state_of w (found_in ss vs pages blo
 -- the same with a return list, of which c is told whether it has 384 places
 abbrev pub MeetsInto : (Bool → model.Call) → AdaptiveReceiverPacketWindow → (sequences values pages blocks returned : Lent) → Step → Type 0
 MeetsInto c w ss vs pages blocks l r =
-    Meets (c (nat_le 384 (length l.entry.now))) (state_of w (found_in ss vs pages blocks)) l.entry.now (left_of r (left_in ss vs pages blocks) l.exit.now)
+    Meets (c (nat_le 384 (length l.entry))) (state_of w (found_in ss vs pages blocks)) l.entry (left_of r (left_in ss vs pages blocks) l.exit)

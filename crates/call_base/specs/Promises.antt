@@ -49,7 +49,7 @@ AdmittedBy c w ss vs pages blocks r = Admitted c (state_of w (found_in ss vs pag
 
 abbrev pub AdmittedInto : (Bool → Call) → AdaptiveReceiverPacketWindow → (sequences values pages blocks returned : Lent) → Step → Type 0
 AdmittedInto c w ss vs pages blocks l r =
-    Admitted (c (nat_le 384 (length l.entry.now))) (state_of w (found_in ss vs pages blocks)) l.entry.now (left_of r (left_in ss vs pages blocks) l.exit.now)
+    Admitted (c (nat_le 384 (length l.entry))) (state_of w (found_in ss vs pages blocks)) l.entry (left_of r (left_in ss vs pages blocks) l.exit)
 
 -- a query: on a sound state the answer is the definition's
 abbrev pub Tells : Query → State → Answer → Type 0
@@ -68,4 +68,4 @@ pub record Fills (step : Window → Effect) (u : State) (l : List ℕ) (r : Left
   pub gives : Sound (window_of u) → effect (window_of r.state) r.answer (stretch 0 r.count r.list) ≡ step (window_of u)
 
 abbrev pub FillsBy : (Window → Effect) → AdaptiveReceiverPacketWindow → (sequences values pages blocks returned : Lent) → Step → Type 0
-FillsBy step w ss vs pages blocks l r = Fills step (state_of w (found_in ss vs pages blocks)) l.entry.now (left_of r (left_in ss vs pages blocks) l.exit.now)
+FillsBy step w ss vs pages blocks l r = Fills step (state_of w (found_in ss vs pages blocks)) l.entry (left_of r (left_in ss vs pages blocks) l.exit)

@@ -10,7 +10,7 @@ pub mod values;
 
 ghost use Rattle.std.specs.Prelude.{◌≤◌, length};
 ghost use Rattle.window.specs.Memory.{capacity};
-ghost use Rattle.window.specs.Lent.{found_in, ListsFit};
+ghost use Rattle.window.specs.Lent.{found_in, ListsFit, lent};
 ghost use Rattle.window.specs.Refusals.{Within};
 ghost use Rattle.model.specs.Calls.{check as check_of, ask};
 ghost use Rattle.call_base.specs.Answers.{state_of, MeetsBy};
@@ -49,8 +49,8 @@ fn checked(
     pages: &[u64],
     blocks: &[u64],
 ) -> Answer
-    requires { ListsFit w sequences values pages blocks }
-    ensures { Checks (state_of w (found_in sequences values pages blocks)) result }
+    requires { ListsFit w sequences.now values.now pages.now blocks.now }
+    ensures { Checks (state_of w (found_in (lent sequences) (lent values) (lent pages) (lent blocks))) result }
 {
     if !sound(w, sequences, pages, blocks) {
         return Answer::Refused(Refusal::Unsound);
@@ -69,7 +69,7 @@ pub fn check(
     pages: &[u64],
     blocks: &[u64],
 ) -> Step
-    ensures { MeetsBy (ask check_of) w sequences values pages blocks result }
+    ensures { MeetsBy (ask check_of) w (lent sequences) (lent values) (lent pages) (lent blocks) result }
 {
     let verdict = admits(
         w,

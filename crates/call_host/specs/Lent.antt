@@ -24,5 +24,5 @@ HostMeetsBy c w ss vs pages blocks r = Meets c (state_of w.entry.now (found_in s
 
 abbrev pub HostMeetsInto : (Bool → Call) → LentHeader → (sequences values pages blocks returned : Lent) → Outcome → Type 0
 HostMeetsInto c w ss vs pages blocks l r =
-    Meets (c (leb 384 (length l.entry.now))) (state_of w.entry.now (found_in ss vs pages blocks)) l.entry.now
-    (left_at w.exit.now r (left_in ss vs pages blocks) l.exit.now)
+    Meets (c (leb 384 (length l.entry))) (state_of w.entry.now (found_in ss vs pages blocks)) l.entry
+    (left_at w.exit.now r (left_in ss vs pages blocks) l.exit)

@@ -2,6 +2,7 @@
 // the call by value and writes the header back that the call gives.
 #![tactic(auto)]
 
+ghost use Rattle.window.specs.Lent.{lent, lent_mut};
 ghost use Rattle.model.specs.Calls.{insert as insert_of, remove as remove_of, release_retired};
 ghost use Rattle.call_host.specs.Lent.{HostMeetsBy, HostMeetsInto};
 
@@ -18,7 +19,7 @@ pub fn insert(
     sequence: u32,
     value: u32,
 ) -> Outcome
-    ensures { HostMeetsInto (insert_of sequence value) w sequences values pages blocks returned result }
+    ensures { HostMeetsInto (insert_of sequence value) w (lent_mut sequences) (lent_mut values) (lent_mut pages) (lent_mut blocks) (lent_mut returned) result }
 {
     let inserted = call_point::insert::insert(
         *w, sequences, values, pages, blocks, returned, sequence, value,
@@ -35,7 +36,7 @@ pub fn remove(
     blocks: &mut [u64],
     sequence: u32,
 ) -> Outcome
-    ensures { HostMeetsBy (remove_of sequence) w sequences values pages blocks result }
+    ensures { HostMeetsBy (remove_of sequence) w (lent_mut sequences) (lent_mut values) (lent_mut pages) (lent_mut blocks) result }
 {
     let removed = call_point::remove::remove(*w, sequences, values, pages, blocks, sequence);
     *w = removed.window;
@@ -51,7 +52,7 @@ pub fn release_retired(
     returned: &mut [u32],
     budget: u32,
 ) -> Outcome
-    ensures { HostMeetsInto (release_retired budget) w sequences values pages blocks returned result }
+    ensures { HostMeetsInto (release_retired budget) w (lent sequences) (lent values) (lent_mut pages) (lent_mut blocks) (lent_mut returned) result }
 {
     let released = call_retire::release_retired::release_retired(
         *w, sequences, values, pages, blocks, returned, budget,

@@ -3,6 +3,7 @@
 #![tactic(auto)]
 
 ghost use Rattle.std.specs.Prelude.{◌≤◌, length};
+ghost use Rattle.window.specs.Lent.{lent, lent_mut};
 ghost use Rattle.acknowledge.specs.Promises.{ListsLent};
 ghost use Rattle.call_losses.specs.Reports.{WritesLossesBy, ReadsLossesBy};
 ghost use Rattle.call_losses.specs.Promises.{seen_list, CountsWords, PutsLosses};
@@ -90,7 +91,7 @@ pub fn write_losses(
     first: u32,
     last: u32,
 ) -> Step
-    ensures { WritesLossesBy first last w sequences values pages blocks words result }
+    ensures { WritesLossesBy first last w (lent sequences) (lent values) (lent pages) (lent blocks) (lent_mut words) result }
 {
     let verdict = admits(
         w,
@@ -126,7 +127,7 @@ pub fn read_losses(
     first: u32,
     last: u32,
 ) -> Step
-    ensures { ReadsLossesBy first last w sequences values pages blocks words lost result }
+    ensures { ReadsLossesBy first last w (lent sequences) (lent values) (lent pages) (lent blocks) (lent words) (lent_mut lost) result }
 {
     let verdict = admits(
         w,

@@ -1,6 +1,6 @@
 // exchange: the value of the sequence, and another put in its place.
 ghost use Rattle.std.specs.Prelude.{◌+◌, ◌*◌, ◌≤◌, ◌<◌, length};
-ghost use Rattle.window.specs.Lent.{ListsFit};
+ghost use Rattle.window.specs.Lent.{ListsFit, lent, lent_mut};
 ghost use Rattle.model.specs.Calls.{exchange as exchange_of};
 ghost use Rattle.call_base.specs.Answers.{MeetsBy};
 ghost use Rattle.call_base.specs.Promises.{AdmittedBy};
@@ -44,8 +44,8 @@ fn exchange_value(
     sequence: u32,
     value: u32,
 ) -> Step
-    requires { ListsFit w sequences values pages blocks }
-    ensures { AdmittedBy (exchange_of sequence value) w sequences values pages blocks result }
+    requires { ListsFit w sequences.now values.old pages.now blocks.now }
+    ensures { AdmittedBy (exchange_of sequence value) w (lent sequences) (lent_mut values) (lent pages) (lent blocks) result }
 {
     let n = w.n as usize;
     let page = position(w.window_size, sequence) / PAGE_SLOTS;
@@ -66,7 +66,7 @@ pub fn exchange(
     sequence: u32,
     value: u32,
 ) -> Step
-    ensures { MeetsBy (exchange_of sequence value) w sequences values pages blocks result }
+    ensures { MeetsBy (exchange_of sequence value) w (lent sequences) (lent_mut values) (lent pages) (lent blocks) result }
 {
     let verdict = admits(
         w,

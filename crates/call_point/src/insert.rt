@@ -1,7 +1,7 @@
 // insert: the sequence and the value into the window. A retired page is first released whole.
 ghost use Rattle.std.specs.Prelude.{◌+◌, ◌*◌, ◌/◌, ◌≤◌, ◌<◌, length};
 ghost use Rattle.window.specs.Memory.{words_per_page, words_per_block, RowIn};
-ghost use Rattle.window.specs.Lent.{ListsFit, found_in, left_in};
+ghost use Rattle.window.specs.Lent.{ListsFit, found_in, left_in, lent_mut, lent};
 ghost use Rattle.model.specs.Calls.{insert as insert_of};
 ghost use Rattle.acknowledge.specs.Promises.{ListsLent};
 ghost use Rattle.call_base.specs.Answers.{MeetsInto};
@@ -103,7 +103,7 @@ fn insert_live(
 ) -> Put
     requires page_bound { (page < 1024) × (64 * page + 64 ≤ length sequences.old) × (64 * page + 64 ≤ length values.old) × (RowIn words_per_page page pages.old) }
     requires row_in { (RowIn words_per_block (page / 64) blocks.old) × (0 < n) × (n < 64) }
-    ensures { InsertsLive w (found_in sequences values pages blocks) page n sequence value result (left_in sequences values pages blocks) }
+    ensures { InsertsLive w (found_in (lent_mut sequences) (lent_mut values) (lent_mut pages) (lent_mut blocks)) page n sequence value result (left_in (lent_mut sequences) (lent_mut values) (lent_mut pages) (lent_mut blocks)) }
 {
     let words = page_words(pages, page);
     let r = insert_in_page(sequences, values, words, page, n, sequence, value);
@@ -124,7 +124,7 @@ fn made_live(
 ) -> PageReleased
     requires page_bound { (page < 1024) × (64 * page + 64 ≤ length sequences.now) × (64 * page + 64 ≤ length values.now) × (RowIn words_per_page page pages.old) }
     requires row_in { (RowIn words_per_block (page / 64) blocks.old) × (n < 64) × (64 ≤ length returned.old) }
-    ensures { MakesLive w n (found_in sequences values pages blocks) returned.old page reach result (left_in sequences values pages blocks) returned.new }
+    ensures { MakesLive w n (found_in (lent sequences) (lent values) (lent_mut pages) (lent_mut blocks)) returned.old page reach result (left_in (lent sequences) (lent values) (lent_mut pages) (lent_mut blocks)) returned.new }
 {
     if reach == 0 {
         return revive(w, sequences, values, pages, blocks, returned, page, n);
@@ -165,7 +165,7 @@ fn enter(
 ) -> Step
     requires page_bound { (page < 1024) × (64 * page + 64 ≤ length sequences.old) × (64 * page + 64 ≤ length values.old) × (RowIn words_per_page page pages.old) }
     requires row_in { (RowIn words_per_block (page / 64) blocks.old) × (0 < n) × (n < 64) × (live.count ≤ 64) }
-    ensures { Enters live (found_in sequences values pages blocks) page n reach sequence value result (left_in sequences values pages blocks) }
+    ensures { Enters live (found_in (lent_mut sequences) (lent_mut values) (lent_mut pages) (lent_mut blocks)) page n reach sequence value result (left_in (lent_mut sequences) (lent_mut values) (lent_mut pages) (lent_mut blocks)) }
 {
     let window = live.window;
     let count = live.count as u32;
@@ -201,8 +201,8 @@ fn insert_value(
     sequence: u32,
     value: u32,
 ) -> Step
-    requires { ListsFit w sequences values pages blocks × (384 ≤ length returned.old) }
-    ensures { AdmittedInto (insert_of sequence value) w sequences values pages blocks returned result }
+    requires { ListsFit w sequences.old values.old pages.old blocks.old × (384 ≤ length returned.old) }
+    ensures { AdmittedInto (insert_of sequence value) w (lent_mut sequences) (lent_mut values) (lent_mut pages) (lent_mut blocks) (lent_mut returned) result }
 {
     let n = w.n as usize;
     let page = position(w.window_size, sequence) / PAGE_SLOTS;
@@ -249,7 +249,7 @@ pub fn insert(
     sequence: u32,
     value: u32,
 ) -> Step
-    ensures { MeetsInto (insert_of sequence value) w sequences values pages blocks returned result }
+    ensures { MeetsInto (insert_of sequence value) w (lent_mut sequences) (lent_mut values) (lent_mut pages) (lent_mut blocks) (lent_mut returned) result }
 {
     let verdict = admits(
         w,

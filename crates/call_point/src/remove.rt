@@ -1,7 +1,7 @@
 // remove: the value of the sequence taken out of the window.
 ghost use Rattle.std.specs.Prelude.{◌+◌, ◌*◌, ◌/◌, ◌≤◌, ◌<◌, length};
 ghost use Rattle.window.specs.Memory.{words_per_page, words_per_block, RowIn};
-ghost use Rattle.window.specs.Lent.{ListsFit};
+ghost use Rattle.window.specs.Lent.{ListsFit, lent_mut};
 ghost use Rattle.model.specs.Calls.{remove as remove_of};
 ghost use Rattle.call_base.specs.Answers.{MeetsBy};
 ghost use Rattle.call_base.specs.Promises.{AdmittedBy};
@@ -73,8 +73,8 @@ pub fn remove_value(
     blocks: &mut [u64],
     sequence: u32,
 ) -> Step
-    requires { ListsFit w sequences values pages blocks }
-    ensures { AdmittedBy (remove_of sequence) w sequences values pages blocks result }
+    requires { ListsFit w sequences.old values.old pages.old blocks.old }
+    ensures { AdmittedBy (remove_of sequence) w (lent_mut sequences) (lent_mut values) (lent_mut pages) (lent_mut blocks) result }
 {
     let n = w.n as usize;
     let demote_at = w.demote_at as usize;
@@ -114,7 +114,7 @@ pub fn remove(
     blocks: &mut [u64],
     sequence: u32,
 ) -> Step
-    ensures { MeetsBy (remove_of sequence) w sequences values pages blocks result }
+    ensures { MeetsBy (remove_of sequence) w (lent_mut sequences) (lent_mut values) (lent_mut pages) (lent_mut blocks) result }
 {
     let verdict = admits(
         w,

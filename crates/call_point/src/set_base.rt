@@ -1,4 +1,5 @@
 // set_base: the sequence from which the acknowledge point is looked for.
+ghost use Rattle.window.specs.Lent.{lent};
 ghost use Rattle.model.specs.Calls.{set_base};
 ghost use Rattle.call_base.specs.Answers.{MeetsBy};
 
@@ -17,7 +18,7 @@ pub fn set_base(
     blocks: &[u64],
     base: u32,
 ) -> Step
-    ensures { MeetsBy (set_base base) w sequences values pages blocks result }
+    ensures { MeetsBy (set_base base) w (lent sequences) (lent values) (lent pages) (lent blocks) result }
 {
     let verdict = admits(
         w,

@@ -1,4 +1,5 @@
 // take_front: the value of the base, removed, and the base moved by one. If the base is absent, nothing moves.
+ghost use Rattle.window.specs.Lent.{lent_mut};
 ghost use Rattle.acknowledge.specs.Promises.{ListsLent};
 ghost use Rattle.model.specs.Calls.{take_front};
 ghost use Rattle.call_base.specs.Answers.{MeetsBy};
@@ -43,7 +44,7 @@ pub fn take_front(
     pages: &mut [u64],
     blocks: &mut [u64],
 ) -> Step
-    ensures { MeetsBy take_front w sequences values pages blocks result }
+    ensures { MeetsBy take_front w (lent_mut sequences) (lent_mut values) (lent_mut pages) (lent_mut blocks) result }
 {
     let verdict = admits(
         w,

@@ -6,7 +6,7 @@ pub mod cells;
 pub mod round;
 pub mod stranger;
 
-ghost use Rattle.window.specs.Lent.{ListsFit};
+ghost use Rattle.window.specs.Lent.{ListsFit, lent};
 ghost use Rattle.model.specs.Calls.{get as get_of, successor_after, first_from, iter as iter_of, ask};
 ghost use Rattle.call_base.specs.Answers.{MeetsBy};
 ghost use Rattle.call_base.specs.Promises.{TellsBy};
@@ -30,8 +30,8 @@ pub fn value_of(
     blocks: &[u64],
     sequence: u32,
 ) -> Answer
-    requires { ListsFit w sequences values pages blocks }
-    ensures { TellsBy (get_of sequence) w sequences values pages blocks result }
+    requires { ListsFit w sequences.now values.now pages.now blocks.now }
+    ensures { TellsBy (get_of sequence) w (lent sequences) (lent values) (lent pages) (lent blocks) result }
 {
     let n = w.n as usize;
     let page = position(w.window_size, sequence) / PAGE_SLOTS;
@@ -58,7 +58,7 @@ pub fn get(
     blocks: &[u64],
     sequence: u32,
 ) -> Step
-    ensures { MeetsBy (ask (get_of sequence)) w sequences values pages blocks result }
+    ensures { MeetsBy (ask (get_of sequence)) w (lent sequences) (lent values) (lent pages) (lent blocks) result }
 {
     let verdict = admits(
         w,
@@ -84,7 +84,7 @@ pub fn successor_after(
     blocks: &[u64],
     sequence: u32,
 ) -> Step
-    ensures { MeetsBy (ask (successor_after sequence)) w sequences values pages blocks result }
+    ensures { MeetsBy (ask (successor_after sequence)) w (lent sequences) (lent values) (lent pages) (lent blocks) result }
 {
     let verdict = admits(
         w,
@@ -110,7 +110,7 @@ pub fn first_from(
     blocks: &[u64],
     sequence: u32,
 ) -> Step
-    ensures { MeetsBy (ask (first_from sequence)) w sequences values pages blocks result }
+    ensures { MeetsBy (ask (first_from sequence)) w (lent sequences) (lent values) (lent pages) (lent blocks) result }
 {
     let verdict = admits(
         w,
@@ -137,8 +137,8 @@ fn next_pair(
     blocks: &[u64],
     cell: u32,
 ) -> Answer
-    requires { ListsFit w sequences values pages blocks }
-    ensures { TellsBy (iter_of cell) w sequences values pages blocks result }
+    requires { ListsFit w sequences.now values.now pages.now blocks.now }
+    ensures { TellsBy (iter_of cell) w (lent sequences) (lent values) (lent pages) (lent blocks) result }
 {
     let start = cell as usize;
     let end = capacity(w.window_size);
@@ -164,7 +164,7 @@ pub fn iter(
     blocks: &[u64],
     cell: u32,
 ) -> Step
-    ensures { MeetsBy (ask (iter_of cell)) w sequences values pages blocks result }
+    ensures { MeetsBy (ask (iter_of cell)) w (lent sequences) (lent values) (lent pages) (lent blocks) result }
 {
     let verdict = admits(
         w,

@@ -2,7 +2,7 @@
 ghost use Rattle.std.specs.Prelude.{◌≡◌, ◌*◌, ◌<◌, ◌≤◌, length};
 ghost use Rattle.std.proofs.Math.Option.{some};
 ghost use Rattle.window.specs.Memory.{capacity as capacity_of, page_count_of, block_count_of, words_per_page, words_per_block};
-ghost use Rattle.window.specs.Lent.{found_in, ListsFit};
+ghost use Rattle.window.specs.Lent.{found_in, ListsFit, lent};
 ghost use Rattle.model.specs.Calls.{stranger as stranger_of, ask};
 ghost use Rattle.model.specs.Table.{pair_of, range_count_of, is_stranger_of};
 ghost use Rattle.call_base.specs.Answers.{answer_of, MeetsBy};
@@ -96,8 +96,8 @@ fn pair_answer(
     blocks: &[u64],
     sequence: u32,
 ) -> Answer
-    requires { ListsFit w sequences values pages blocks }
-    ensures { GivesPair w (found_in sequences values pages blocks) sequence (answer_of result) }
+    requires { ListsFit w sequences.now values.now pages.now blocks.now }
+    ensures { GivesPair w (found_in (lent sequences) (lent values) (lent pages) (lent blocks)) sequence (answer_of result) }
 {
     let answer = value_of(w, sequences, values, pages, blocks, sequence);
     if let Answer::Found(value) = answer {
@@ -115,8 +115,8 @@ fn stranger_answer(
     blocks: &[u64],
     found: Found,
 ) -> Answer
-    requires { ListsFit w sequences values pages blocks }
-    ensures { GivesFound w (found_in sequences values pages blocks) found (answer_of result) }
+    requires { ListsFit w sequences.now values.now pages.now blocks.now }
+    ensures { GivesFound w (found_in (lent sequences) (lent values) (lent pages) (lent blocks)) found (answer_of result) }
 {
     match found {
         Found::At(sequence) => pair_answer(w, sequences, values, pages, blocks, sequence),
@@ -135,8 +135,8 @@ fn first_stranger(
     first: u32,
     last: u32,
 ) -> Answer
-    requires { ListsFit w sequences values pages blocks × (range_count_of first last ≤ w.window_size) }
-    ensures { TellsBy (stranger_of first last) w sequences values pages blocks result }
+    requires { ListsFit w sequences.now values.now pages.now blocks.now × (range_count_of first last ≤ w.window_size) }
+    ensures { TellsBy (stranger_of first last) w (lent sequences) (lent values) (lent pages) (lent blocks) result }
 {
     let count = range_count(first, last);
     let found = find_in_range(w, sequences, pages, blocks, first, count);
@@ -153,7 +153,7 @@ pub fn stranger(
     first: u32,
     last: u32,
 ) -> Step
-    ensures { MeetsBy (ask (stranger_of first last)) w sequences values pages blocks result }
+    ensures { MeetsBy (ask (stranger_of first last)) w (lent sequences) (lent values) (lent pages) (lent blocks) result }
 {
     let verdict = admits(
         w,

@@ -1,6 +1,6 @@
 // clear: every value retired, and a release visit with its whole budget.
 ghost use Rattle.std.specs.Prelude.{◌≤◌, length};
-ghost use Rattle.window.specs.Lent.{ListsFit};
+ghost use Rattle.window.specs.Lent.{ListsFit, lent, lent_mut};
 ghost use Rattle.model.specs.Calls.{clear as clear_of};
 ghost use Rattle.model.specs.Steps.{clear_step};
 ghost use Rattle.call_base.specs.Answers.{MeetsInto};
@@ -23,8 +23,8 @@ fn clear_all(
     blocks: &mut [u64],
     returned: &mut [u32],
 ) -> Step
-    requires { ListsFit w sequences values pages blocks × (384 ≤ length returned.old) }
-    ensures { FillsBy clear_step w sequences values pages blocks returned result }
+    requires { ListsFit w sequences.now values.now pages.old blocks.old × (384 ≤ length returned.old) }
+    ensures { FillsBy clear_step w (lent sequences) (lent values) (lent_mut pages) (lent_mut blocks) (lent_mut returned) result }
 {
     let retired = retire_all(w, blocks);
     let visited = release_visit::release_retired(
@@ -49,7 +49,7 @@ pub fn clear(
     blocks: &mut [u64],
     returned: &mut [u32],
 ) -> Step
-    ensures { MeetsInto clear_of w sequences values pages blocks returned result }
+    ensures { MeetsInto clear_of w (lent sequences) (lent values) (lent_mut pages) (lent_mut blocks) (lent_mut returned) result }
 {
     let verdict = admits(
         w,

@@ -1,6 +1,6 @@
 // clear_bounded: every value retired, and at most a number of them handed back from page 0 on, the cursor kept.
 ghost use Rattle.std.specs.Prelude.{◌≤◌, length};
-ghost use Rattle.window.specs.Lent.{ListsFit};
+ghost use Rattle.window.specs.Lent.{ListsFit, lent, lent_mut};
 ghost use Rattle.model.specs.Calls.{clear_bounded};
 ghost use Rattle.model.specs.Steps.{clear_bounded_step};
 ghost use Rattle.call_base.specs.Answers.{MeetsInto};
@@ -25,8 +25,8 @@ fn clear_some(
     returned: &mut [u32],
     number: u32,
 ) -> Step
-    requires { ListsFit w sequences values pages blocks × (384 ≤ length returned.old) × (number ≤ 256) }
-    ensures { FillsBy (λ v. clear_bounded_step v number) w sequences values pages blocks returned result }
+    requires { ListsFit w sequences.now values.now pages.old blocks.old × (384 ≤ length returned.old) × (number ≤ 256) }
+    ensures { FillsBy (λ v. clear_bounded_step v number) w (lent sequences) (lent values) (lent_mut pages) (lent_mut blocks) (lent_mut returned) result }
 {
     let retired = retire_all(w, blocks);
     let released = release_pages(
@@ -53,7 +53,7 @@ pub fn clear_bounded(
     returned: &mut [u32],
     number: u32,
 ) -> Step
-    ensures { MeetsInto (clear_bounded number) w sequences values pages blocks returned result }
+    ensures { MeetsInto (clear_bounded number) w (lent sequences) (lent values) (lent_mut pages) (lent_mut blocks) (lent_mut returned) result }
 {
     let verdict = admits(
         w,

@@ -1,5 +1,6 @@
 // release_retired: retired values handed back, at a cost of one unit for each page inspected and each value. With none held it answers
 // at once.
+ghost use Rattle.window.specs.Lent.{lent, lent_mut};
 ghost use Rattle.model.specs.Calls.{release_retired};
 ghost use Rattle.call_base.specs.Answers.{MeetsInto};
 
@@ -19,7 +20,7 @@ pub fn release_retired(
     returned: &mut [u32],
     budget: u32,
 ) -> Step
-    ensures { MeetsInto (release_retired budget) w sequences values pages blocks returned result }
+    ensures { MeetsInto (release_retired budget) w (lent sequences) (lent values) (lent_mut pages) (lent_mut blocks) (lent_mut returned) result }
 {
     let verdict = admits(
         w,

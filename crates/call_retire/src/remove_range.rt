@@ -1,7 +1,7 @@
 // remove_range: the live values at the positions from first's to last's retired, and a release visit with its whole budget.
 ghost use Rattle.std.specs.Prelude.{◌<◌, ◌≤◌, length};
 ghost use Rattle.window.specs.Memory.{capacity};
-ghost use Rattle.window.specs.Lent.{found_in, left_in, ListsFit};
+ghost use Rattle.window.specs.Lent.{found_in, left_in, ListsFit, lent_mut};
 ghost use Rattle.model.specs.Calls.{remove_range};
 ghost use Rattle.model.specs.Steps.{range_step};
 ghost use Rattle.block_marks.specs.Promises.{ChangesHeader};
@@ -48,9 +48,9 @@ fn retire(
     start: usize,
     count: usize,
 ) -> Retired
-    requires lists_fit { ListsFit w sequences values pages blocks }
+    requires lists_fit { ListsFit w sequences.old values.old pages.old blocks.old }
     requires start_bound { (start < capacity w.window_size) × (0 < count) × (count ≤ capacity w.window_size) × (128 ≤ length returned.old) }
-    ensures { Performs (λ v. retire_ready v start count) 128 w (found_in sequences values pages blocks) 0 returned.old result (left_in sequences values pages blocks) returned.new }
+    ensures { Performs (λ v. retire_ready v start count) 128 w (found_in (lent_mut sequences) (lent_mut values) (lent_mut pages) (lent_mut blocks)) 0 returned.old result (left_in (lent_mut sequences) (lent_mut values) (lent_mut pages) (lent_mut blocks)) returned.new }
 {
     let retired = retire_range(w, sequences, values, pages, blocks, returned, start, count);
     let left = retired.window;
@@ -74,9 +74,9 @@ fn remove_positions(
     start: usize,
     count: usize,
 ) -> Step
-    requires lists_fit { ListsFit w sequences values pages blocks }
+    requires lists_fit { ListsFit w sequences.old values.old pages.old blocks.old }
     requires start_bound { (start < capacity w.window_size) × (0 < count) × (count ≤ capacity w.window_size) × (384 ≤ length returned.old) }
-    ensures { FillsBy (λ v. range_step v start count) w sequences values pages blocks returned result }
+    ensures { FillsBy (λ v. range_step v start count) w (lent_mut sequences) (lent_mut values) (lent_mut pages) (lent_mut blocks) (lent_mut returned) result }
 {
     let retired = retire(w, sequences, values, pages, blocks, returned, start, count);
     let left = retired.window;
@@ -123,7 +123,7 @@ pub fn remove_range(
     first: u32,
     last: u32,
 ) -> Step
-    ensures { MeetsInto (remove_range first last) w sequences values pages blocks returned result }
+    ensures { MeetsInto (remove_range first last) w (lent_mut sequences) (lent_mut values) (lent_mut pages) (lent_mut blocks) (lent_mut returned) result }
 {
     let verdict = admits(
         w,

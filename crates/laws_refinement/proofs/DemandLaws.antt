@@ -7,7 +7,7 @@ use Rattle.window.specs.New.{fresh}
 use Rattle.model.specs.Window.{fresh_window}
 use Rattle.model.specs.Positions.{fresh_positions}
 use Rattle.model.specs.Contract.{State}
-use Rattle.model.specs.Heads.{Began, head, Demand3}
+use Rattle.model.specs.Heads.{Began, head, HeadsMeetDemand3}
 use Rattle.model.specs.Refinement.{Fresh}
 use Rattle.model.proofs.NewLaws.{fresh-live, fresh-retired, began-accepted, began-fresh, began-sound, began-fits}
 use Rattle.model.proofs.HeadLaws.{carries}
@@ -34,8 +34,8 @@ began size u b = record {
 }
 
 -- demand 3 holds
-pub demand-3 : Demand3
-unfolding Demand3
+pub demand-3 : HeadsMeetDemand3
+unfolding HeadsMeetDemand3
 demand-3 size a b v w xs ys i j g h e =
     carries size (began-accepted size a i).within.size_high head (SoundState size) positions_in (refinement size)
     (began size a i) (began size b j) g h e

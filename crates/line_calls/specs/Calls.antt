@@ -91,4 +91,4 @@ Made none u l Unknown m l' = (m ≡ u.memory) × (l' ≡ l)
 -- as a signature says it
 abbrev pub MadeBy : (Bool → Option Call) → AdaptiveReceiverPacketWindow → (sequences values pages blocks returned : Lent) → Called → Type 0
 MadeBy c w ss vs pages blocks l r =
-    Made (c (leb 384 (length l.entry.now))) (state_of w (found_in ss vs pages blocks)) l.entry.now r (left_in ss vs pages blocks) l.exit.now
+    Made (c (leb 384 (length l.entry))) (state_of w (found_in ss vs pages blocks)) l.entry r (left_in ss vs pages blocks) l.exit

@@ -3,6 +3,7 @@
 
 pub mod list;
 
+ghost use Rattle.window.specs.Lent.{lent_mut};
 ghost use Rattle.line_text.specs.Promises.{said_by};
 ghost use Rattle.line_calls.specs.Calls.{range_call_of, base_call_of, call_of, MadeBy};
 
@@ -38,7 +39,7 @@ pub fn range_call(
     returned: &mut [u32],
     f: Fields,
 ) -> Called
-    ensures { MadeBy (range_call_of (said_by f)) w sequences values pages blocks returned result }
+    ensures { MadeBy (range_call_of (said_by f)) w (lent_mut sequences) (lent_mut values) (lent_mut pages) (lent_mut blocks) (lent_mut returned) result }
 {
     let first = f.first;
     let second = f.second;
@@ -68,7 +69,7 @@ pub fn base_call(
     returned: &mut [u32],
     f: Fields,
 ) -> Called
-    ensures { MadeBy (base_call_of (said_by f)) w sequences values pages blocks returned result }
+    ensures { MadeBy (base_call_of (said_by f)) w (lent_mut sequences) (lent_mut values) (lent_mut pages) (lent_mut blocks) (lent_mut returned) result }
 {
     let first = f.first;
     let letter = f.letter;
@@ -89,7 +90,7 @@ pub fn call(
     returned: &mut [u32],
     f: Fields,
 ) -> Called
-    ensures { MadeBy (call_of (said_by f)) w sequences values pages blocks returned result }
+    ensures { MadeBy (call_of (said_by f)) w (lent_mut sequences) (lent_mut values) (lent_mut pages) (lent_mut blocks) (lent_mut returned) result }
 {
     let first = f.first;
     let second = f.second;

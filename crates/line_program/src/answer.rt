@@ -1,5 +1,6 @@
 // One line: what it asks for, done and put out.
 ghost use Rattle.std.specs.Prelude.{◌≡◌, ◌<◌, ◌≤◌, true};
+ghost use Rattle.window.specs.Lent.{lent, lent_mut};
 ghost use Rattle.line_text.specs.Promises.{said_by, line_answer};
 ghost use Rattle.line_calls.specs.Calls.{call_of, called, command_of};
 ghost use Rattle.line_program.specs.Program.{unknown_line, new_line, list_line, command_line, said_line};
@@ -37,7 +38,7 @@ fn unknown(
 ) -> Answered
     requires kept_in { KeptIn w sequences values pages blocks }
     requires at_bound { at ≤ 65536 }
-    ensures { AnswersBy unknown_line w sequences values pages blocks out at result }
+    ensures { AnswersBy unknown_line w (lent sequences) (lent values) (lent pages) (lent blocks) out at result }
 {
     Answered {
         window: w,
@@ -59,7 +60,7 @@ fn create(
 ) -> Answered
     requires kept_in { KeptIn w sequences values pages blocks }
     requires at_bound { at ≤ 65536 }
-    ensures { AnswersBy (λ k. new_line k f.first f.second f.third) w sequences values pages blocks out at result }
+    ensures { AnswersBy (λ k. new_line k f.first f.second f.third) w (lent_mut sequences) (lent_mut values) (lent_mut pages) (lent_mut blocks) out at result }
 {
     if 4096 < f.first {
         return unknown(w, sequences, values, pages, blocks, out, at);
@@ -94,7 +95,7 @@ fn list(
     requires kept_in { KeptIn w sequences values pages blocks }
     requires at_bound { at ≤ 65536 }
     requires window_size_nonzero { 0 < w.window_size }
-    ensures { AnswersBy list_line w sequences values pages blocks out at result }
+    ensures { AnswersBy list_line w (lent sequences) (lent values) (lent pages) (lent blocks) out at result }
 {
     let count = live_pairs(
         w,
@@ -126,7 +127,7 @@ fn answer_call(
     requires kept_in { KeptIn w sequences values pages blocks }
     requires at_bound { at ≤ 65536 }
     requires window_size_nonzero { 0 < w.window_size }
-    ensures { AnswersBy (λ k. command_line k f.letter (called (call_of (said_by f) true))) w sequences values pages blocks out at result }
+    ensures { AnswersBy (λ k. command_line k f.letter (called (call_of (said_by f) true))) w (lent_mut sequences) (lent_mut values) (lent_mut pages) (lent_mut blocks) out at result }
 {
     let letter = f.letter;
     let called = call(w, sequences, values, pages, blocks, returned, f);
@@ -168,7 +169,7 @@ fn answer(
 ) -> Answered
     requires kept_in { KeptIn w sequences values pages blocks }
     requires at_bound { at ≤ 65536 }
-    ensures { AnswersBy (λ k. command_line k f.letter (command_of (said_by f))) w sequences values pages blocks out at result }
+    ensures { AnswersBy (λ k. command_line k f.letter (command_of (said_by f))) w (lent_mut sequences) (lent_mut values) (lent_mut pages) (lent_mut blocks) out at result }
 {
     if f.letter == b'n' {
         return create(w, sequences, values, pages, blocks, returned, out, at, f);
@@ -219,7 +220,7 @@ pub fn answer_line(
 ) -> Answered
     requires kept_in { KeptIn w sequences values pages blocks }
     requires at_bound { at ≤ 65536 }
-    ensures { AnswersBy (λ k. said_line k (gathered line.now length)) w sequences values pages blocks out at result }
+    ensures { AnswersBy (λ k. said_line k (gathered line.now length)) w (lent_mut sequences) (lent_mut values) (lent_mut pages) (lent_mut blocks) out at result }
 {
     let parsed = parse_line(line, length);
     match parsed {

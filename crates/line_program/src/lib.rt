@@ -5,7 +5,7 @@ pub mod answer;
 pub mod notes;
 
 ghost use Rattle.std.specs.Prelude.{◌<◌, ◌≤◌, length};
-ghost use Rattle.window.specs.Lent.{left_in};
+ghost use Rattle.window.specs.Lent.{left_in, lent_mut};
 ghost use Rattle.call_base.specs.Answers.{state_of};
 ghost use Rattle.line_program.specs.Promises.{Kept, KeptIn, LineEndsBy, TakesBy, Stops, EndsBy};
 
@@ -43,7 +43,7 @@ fn end_line(
 ) -> Program
     requires kept_in { KeptIn p.window sequences values pages blocks }
     requires at_bound { p.at ≤ 65536 }
-    ensures { LineEndsBy p line length from sequences values pages blocks out result }
+    ensures { LineEndsBy p line length from (lent_mut sequences) (lent_mut values) (lent_mut pages) (lent_mut blocks) out result }
 {
     let window = p.window;
     let notes = p.notes;
@@ -90,8 +90,8 @@ fn take_line(
     requires at_bound { p.at ≤ 65536 }
     requires from_in_bounds { p.from < length part.now }
     ensures from_lt_from { (p.from < result.from) × (result.from ≤ length part.now) }
-    ensures takes_by { TakesBy p part.now line sequences values pages blocks out result }
-    ensures kept { Kept (state_of result.window (left_in sequences values pages blocks)) }
+    ensures takes_by { TakesBy p part.now line (lent_mut sequences) (lent_mut values) (lent_mut pages) (lent_mut blocks) out result }
+    ensures kept { Kept (state_of result.window (left_in (lent_mut sequences) (lent_mut values) (lent_mut pages) (lent_mut blocks))) }
 {
     let from = p.from;
     let to = next_byte(part, from, b'\n');
@@ -134,9 +134,9 @@ pub fn take_lines(
 ) -> Program
     requires kept_in { KeptIn p.window sequences values pages blocks }
     requires from_in_bounds { p.from ≤ length part.now }
-    ensures takes_by { TakesBy p part.now line sequences values pages blocks out result }
+    ensures takes_by { TakesBy p part.now line (lent_mut sequences) (lent_mut values) (lent_mut pages) (lent_mut blocks) out result }
     ensures stops { Stops p (length part.now) result }
-    ensures kept { Kept (state_of result.window (left_in sequences values pages blocks)) }
+    ensures kept { Kept (state_of result.window (left_in (lent_mut sequences) (lent_mut values) (lent_mut pages) (lent_mut blocks))) }
 {
     let mut program = p;
     while program.from < part.len() {
@@ -175,7 +175,7 @@ pub fn take_last(
 ) -> Program
     requires kept_in { KeptIn p.window sequences values pages blocks }
     requires at_bound { p.at ≤ 65536 }
-    ensures { EndsBy p line sequences values pages blocks out result }
+    ensures { EndsBy p line (lent_mut sequences) (lent_mut values) (lent_mut pages) (lent_mut blocks) out result }
 {
     if p.length == 0 {
         return p;

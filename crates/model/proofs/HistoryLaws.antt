@@ -83,7 +83,7 @@ module _ (H : Head) where
   first-history zero begun = begun
   first-history (suc k) begun = begun
   first-history zero (goes_on m h) = begun
-  first-history (suc k) (goes_on m h) = goes_on m (first-history k h)
+  first-history {u = u} {w = w} (suc k) (goes_on {v = v} {e = e} {es = es} m h) = goes_on m (first-history {u = v} k h)
 
   module _ (size : ℕ) where
     -- what is asked of one call: in state u, with Good u t, it gave the entry e and left state w
@@ -149,7 +149,7 @@ module _ (H : Head) where
       visits-drain : {u w : W} {es : List Entry} {n : ℕ} (t : TableState) → Good u t → Visits es n → History H u es w → length (H.retired u) ≤ n → length (H.retired w) ≡ 0
       visits-drain t g no_visit begun h = omega arith
       visits-drain {u} {w} t g (visit {e = e} b c l vs) (goes_on {v = x} m k) h =
-          visits-drain (table_step size t e.call).after (keeps t u x e g m).good vs k (omega (arith, halves t u x e b g m c l))
+          visits-drain {u = x} (table_step size t e.call).after (keeps t u x e g m).good vs k (omega (arith, halves t u x e b g m c l))
 
       history-after : {u w : W} {es : List Entry} → Start Good u → History H u es w → After H size w es
       history-after {u} {w} {es} b h =

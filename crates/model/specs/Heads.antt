@@ -67,8 +67,8 @@ head = record {
 }
 
 -- demand 3: for every two heads of one window_size and every two histories of one common list
-unfoldable pub Demand3 : Type 0
-Demand3 =
+unfoldable pub HeadsMeetDemand3 : Type 0
+HeadsMeetDemand3 =
     (size : ℕ) (a b v w : State) (xs ys : List Entry) → Began size a → Began size b
     → (g : History head a xs v) (h : History head b ys w)
     → common (calls_of xs) ≡ common (calls_of ys)

@@ -1,7 +1,7 @@
 // A range of positions retired, wrapping at the capacity: first the stretch up to the capacity, then that from 0.
 ghost use Rattle.std.specs.Prelude.{◌+◌, ◌≤◌, ◌<◌, length};
 ghost use Rattle.window.specs.Memory.{capacity as capacity_of};
-ghost use Rattle.window.specs.Lent.{found_in, left_in};
+ghost use Rattle.window.specs.Lent.{found_in, left_in, lent_mut};
 ghost use Rattle.window.specs.Refusals.{Fits};
 ghost use Rattle.model.specs.Steps.{retire_range_of};
 ghost use Rattle.range_retire.specs.Spans.{two_stretches};
@@ -26,7 +26,7 @@ fn retire_round(
 ) -> Retired
     requires fits { Fits w (length sequences.old) (length values.old) (length pages.old) (length blocks.old) }
     requires start_lt_end { (start < end) × (end ≤ capacity_of w.window_size) × (capacity_of w.window_size ≤ end) × (0 < rest) × (rest ≤ end) × (128 ≤ length returned.old) }
-    ensures { Performs (two_stretches start end rest) 128 w (found_in sequences values pages blocks) 0 returned.old result (left_in sequences values pages blocks) returned.new }
+    ensures { Performs (two_stretches start end rest) 128 w (found_in (lent_mut sequences) (lent_mut values) (lent_mut pages) (lent_mut blocks)) 0 returned.old result (left_in (lent_mut sequences) (lent_mut values) (lent_mut pages) (lent_mut blocks)) returned.new }
 {
     let first = retire_span(w, sequences, values, pages, blocks, returned, 0, start, end);
     let left = first.window;
@@ -57,7 +57,7 @@ pub fn retire_range(
 ) -> Retired
     requires fits { Fits w (length sequences.old) (length values.old) (length pages.old) (length blocks.old) }
     requires start_bound { (start < capacity_of w.window_size) × (0 < count) × (count ≤ capacity_of w.window_size) × (128 ≤ length returned.old) }
-    ensures { Performs (λ v. retire_range_of v start count) 128 w (found_in sequences values pages blocks) 0 returned.old result (left_in sequences values pages blocks) returned.new }
+    ensures { Performs (λ v. retire_range_of v start count) 128 w (found_in (lent_mut sequences) (lent_mut values) (lent_mut pages) (lent_mut blocks)) 0 returned.old result (left_in (lent_mut sequences) (lent_mut values) (lent_mut pages) (lent_mut blocks)) returned.new }
 {
     let end = capacity(w.window_size);
     let to = start + count;

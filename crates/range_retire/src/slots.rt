@@ -2,7 +2,7 @@
 ghost use Rattle.std.specs.Prelude.{◌+◌, ◌*◌, ◌≤◌, ◌<◌, length};
 ghost use Rattle.words.specs.Word.{is_set};
 ghost use Rattle.window.specs.Memory.{page_count_of, words_per_page, RowIn};
-ghost use Rattle.window.specs.Lent.{found_in, left_in};
+ghost use Rattle.window.specs.Lent.{found_in, left_in, lent_mut};
 ghost use Rattle.window.specs.Refusals.{Fits};
 ghost use Rattle.model.specs.Steps.{remove_slots_of};
 ghost use Rattle.page_base.specs.Page.{words_at, part_of};
@@ -81,7 +81,7 @@ fn take_slots(
 ) -> Retired
     requires fits { Fits w (length sequences.old) (length values.old) (length pages.old) (length blocks.old) }
     requires page_bound { (page < page_count_of w.window_size) × (at + 64 ≤ length returned.old) }
-    ensures { Performs (λ v. take_slots_of v page (is_set slots)) 64 w (found_in sequences values pages blocks) at returned.old result (left_in sequences values pages blocks) returned.new }
+    ensures { Performs (λ v. take_slots_of v page (is_set slots)) 64 w (found_in (lent_mut sequences) (lent_mut values) (lent_mut pages) (lent_mut blocks)) at returned.old result (left_in (lent_mut sequences) (lent_mut values) (lent_mut pages) (lent_mut blocks)) returned.new }
 {
     let d = drain_slots(
         sequences,
@@ -128,7 +128,7 @@ pub fn remove_slots(
 ) -> Retired
     requires fits { Fits w (length sequences.old) (length values.old) (length pages.old) (length blocks.old) }
     requires page_bound { (page < page_count_of w.window_size) × (at + 64 ≤ length returned.old) }
-    ensures { Performs (λ v. remove_slots_of v page (is_set slots)) 64 w (found_in sequences values pages blocks) at returned.old result (left_in sequences values pages blocks) returned.new }
+    ensures { Performs (λ v. remove_slots_of v page (is_set slots)) 64 w (found_in (lent_mut sequences) (lent_mut values) (lent_mut pages) (lent_mut blocks)) at returned.old result (left_in (lent_mut sequences) (lent_mut values) (lent_mut pages) (lent_mut blocks)) returned.new }
 {
     let words = page_words(pages, page);
     if words.occupied == 0 {

@@ -1,7 +1,7 @@
 // A stretch of positions retired: the partial pages at either end value by value, whole pages and blocks by mark.
 ghost use Rattle.std.specs.Prelude.{◌≡◌, ◌+◌, ◌-◌, ◌*◌, ◌/◌, ◌≤◌, ◌<◌, length};
 ghost use Rattle.window.specs.Memory.{capacity};
-ghost use Rattle.window.specs.Lent.{found_in, left_in};
+ghost use Rattle.window.specs.Lent.{found_in, left_in, lent_mut};
 ghost use Rattle.window.specs.Refusals.{Fits};
 ghost use Rattle.model.specs.Steps.{retire_stretch};
 ghost use Rattle.laws_soundness.specs.Retire.{first_page, last_page};
@@ -30,7 +30,7 @@ fn retire_head(
 ) -> Retired
     requires fits { Fits w (length sequences.old) (length values.old) (length pages.old) (length blocks.old) }
     requires start_bound { (start < capacity w.window_size) × (at + partial start ≤ length returned.old) }
-    ensures { Performs (λ v. first_page v start) (partial start) w (found_in sequences values pages blocks) at returned.old result (left_in sequences values pages blocks) returned.new }
+    ensures { Performs (λ v. first_page v start) (partial start) w (found_in (lent_mut sequences) (lent_mut values) (lent_mut pages) (lent_mut blocks)) at returned.old result (left_in (lent_mut sequences) (lent_mut values) (lent_mut pages) (lent_mut blocks)) returned.new }
 {
     if start % PAGE_SLOTS == 0 {
         return Retired {
@@ -66,7 +66,7 @@ fn retire_tail(
 ) -> Retired
     requires fits { Fits w (length sequences.old) (length values.old) (length pages.old) (length blocks.old) }
     requires end_bound { (end ≤ capacity w.window_size) × (at + partial end ≤ length returned.old) }
-    ensures { Performs (λ v. last_page v end) (partial end) w (found_in sequences values pages blocks) at returned.old result (left_in sequences values pages blocks) returned.new }
+    ensures { Performs (λ v. last_page v end) (partial end) w (found_in (lent_mut sequences) (lent_mut values) (lent_mut pages) (lent_mut blocks)) at returned.old result (left_in (lent_mut sequences) (lent_mut values) (lent_mut pages) (lent_mut blocks)) returned.new }
 {
     if end % PAGE_SLOTS == 0 {
         return Retired {
@@ -103,7 +103,7 @@ fn retire_ends(
 ) -> Retired
     requires fits { Fits w (length sequences.old) (length values.old) (length pages.old) (length blocks.old) }
     requires start_bound { (start < capacity w.window_size) × (end ≤ capacity w.window_size) × (at + (partial start + partial end) ≤ length returned.old) }
-    ensures { Performs (λ v. end_pages v start end) (partial start + partial end) w (found_in sequences values pages blocks) at returned.old result (left_in sequences values pages blocks) returned.new }
+    ensures { Performs (λ v. end_pages v start end) (partial start + partial end) w (found_in (lent_mut sequences) (lent_mut values) (lent_mut pages) (lent_mut blocks)) at returned.old result (left_in (lent_mut sequences) (lent_mut values) (lent_mut pages) (lent_mut blocks)) returned.new }
 {
     let head = retire_head(w, sequences, values, pages, blocks, returned, at, start);
     let begun = head.window;
@@ -131,7 +131,7 @@ pub fn retire_inside(
 ) -> Retired
     requires fits { Fits w (length sequences.old) (length values.old) (length pages.old) (length blocks.old) }
     requires start_lt_end { (start < end) × (start / 64 ≡ (end - 1) / 64) × (end ≤ capacity w.window_size) × (at + span_most start end ≤ length returned.old) }
-    ensures { Performs (λ v. retire_stretch v start end) (span_most start end) w (found_in sequences values pages blocks) at returned.old result (left_in sequences values pages blocks) returned.new }
+    ensures { Performs (λ v. retire_stretch v start end) (span_most start end) w (found_in (lent_mut sequences) (lent_mut values) (lent_mut pages) (lent_mut blocks)) at returned.old result (left_in (lent_mut sequences) (lent_mut values) (lent_mut pages) (lent_mut blocks)) returned.new }
 {
     let slots = words::span(start % PAGE_SLOTS, (end - 1) % PAGE_SLOTS + 1);
     remove_slots(
@@ -161,7 +161,7 @@ pub fn retire_across(
 ) -> Retired
     requires fits { Fits w (length sequences.old) (length values.old) (length pages.old) (length blocks.old) }
     requires start_bound { (64 * (start / 64) + 64 < end) × (end ≤ capacity w.window_size) × (at + (partial start + partial end) ≤ length returned.old) }
-    ensures { Performs (λ v. retire_stretch v start end) (partial start + partial end) w (found_in sequences values pages blocks) at returned.old result (left_in sequences values pages blocks) returned.new }
+    ensures { Performs (λ v. retire_stretch v start end) (partial start + partial end) w (found_in (lent_mut sequences) (lent_mut values) (lent_mut pages) (lent_mut blocks)) at returned.old result (left_in (lent_mut sequences) (lent_mut values) (lent_mut pages) (lent_mut blocks)) returned.new }
 {
     let ends = retire_ends(
         w, sequences, values, pages, blocks, returned, at, start, end,
@@ -195,7 +195,7 @@ pub fn retire_span(
 ) -> Retired
     requires fits { Fits w (length sequences.old) (length values.old) (length pages.old) (length blocks.old) }
     requires start_lt_end { (start < end) × (end ≤ capacity w.window_size) × (at + span_most start end ≤ length returned.old) }
-    ensures { Performs (λ v. retire_stretch v start end) (span_most start end) w (found_in sequences values pages blocks) at returned.old result (left_in sequences values pages blocks) returned.new }
+    ensures { Performs (λ v. retire_stretch v start end) (span_most start end) w (found_in (lent_mut sequences) (lent_mut values) (lent_mut pages) (lent_mut blocks)) at returned.old result (left_in (lent_mut sequences) (lent_mut values) (lent_mut pages) (lent_mut blocks)) returned.new }
 {
     if start / PAGE_SLOTS == (end - 1) / PAGE_SLOTS {
         return retire_inside(

@@ -7,6 +7,7 @@ pub mod memory;
 pub mod refusals;
 
 ghost use Rattle.std.specs.Prelude.{◌≡◌};
+ghost use Rattle.window.specs.Lent.{lent_mut};
 ghost use Rattle.window.specs.New.{NewBy, fresh as fresh_of};
 
 use memory::{BLOCK_WORDS, PAGE_WORDS, block_count, clear_words, page_count};
@@ -69,7 +70,7 @@ impl AdaptiveReceiverPacketWindow {
         n: u32,
         demote_at: u32,
     ) -> Created
-        ensures { NewBy window_size n demote_at sequences values pages blocks result }
+        ensures { NewBy window_size n demote_at (lent_mut sequences) (lent_mut values) (lent_mut pages) (lent_mut blocks) result }
     {
         let verdict = limits(window_size, n, demote_at);
         if let Verdict::Refuse(why) = verdict {

@@ -15,7 +15,7 @@ start k = k.before.before.before.before.before
 abbrev found : tie.After-capacity → Memory
 found k = let s = (start k).args in memory s.sequences.now s.values.now s.pages.now s.blocks.now
 
-fit : (k : tie.After-capacity) → ListsFit (start k).args.w (start k).args.sequences (start k).args.values (start k).args.pages (start k).args.blocks
+fit : (k : tie.After-capacity) → ListsFit (start k).args.w (start k).args.sequences.now (start k).args.values.now (start k).args.pages.now (start k).args.blocks.now
 fit k = (start k).requires
 
 capacity-requires : tie.Need-capacity-requires

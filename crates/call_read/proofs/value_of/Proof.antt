@@ -11,7 +11,7 @@ use Rattle.call_read.proofs.value_of.Tie as tie
 abbrev start : tie.After-position → tie.Start
 start p = p.before.before.before.before.before.before
 
-fit : (p : tie.After-position) → ListsFit (start p).args.w (start p).args.sequences (start p).args.values (start p).args.pages (start p).args.blocks
+fit : (p : tie.After-position) → ListsFit (start p).args.w (start p).args.sequences.now (start p).args.values.now (start p).args.pages.now (start p).args.blocks.now
 fit p = (start p).requires
 
 page : (p : tie.After-position) → PageBounds (start p).args.w.window_size (p.position.result / 64)

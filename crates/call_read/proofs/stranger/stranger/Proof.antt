@@ -34,7 +34,7 @@ enum_told : tie.Need-enum-told
 enum_told c = search rules
 
 -- past the refusals
-fit : (m : tie.At-match-keys2) → let s = m.before.before.before.before.before.before.args in ListsFit s.w s.sequences s.values s.pages s.blocks
+fit : (m : tie.At-match-keys2) → let s = m.before.before.before.before.before.before.args in ListsFit s.w s.sequences.now s.values.now s.pages.now s.blocks.now
 fit m = let s = m.before.before.before.before.before.before.args in asked-fits (stranger s.first s.last) (found m.before) m.before.admits.result m.before.admits.ensures m.match.keys2
 
 first-stranger-requires : tie.Need-first-stranger-requires

@@ -41,7 +41,7 @@ enum_told : tie.Need-enum-told
 enum_told c = search rules
 
 -- past the refusals
-fit : (m : tie.At-match-keys2) → let s = m.before.before.before.before.before.before.before.args in ListsFit s.w s.sequences s.values s.pages s.blocks
+fit : (m : tie.At-match-keys2) → let s = m.before.before.before.before.before.before.before.args in ListsFit s.w s.sequences.now s.values.now s.pages.now s.blocks.now
 fit m = let s = m.before.before.before.before.before.before.before.args in admitted-fits (remove_range s.first s.last (leb 384 (length s.returned.now))) (found m.before) (length s.returned.now) refl m.before.admits.result m.before.admits.ensures m.match.keys2
 
 long : (m : tie.At-match-keys2) → 384 ≤ length m.before.before.before.before.before.before.before.args.returned.now

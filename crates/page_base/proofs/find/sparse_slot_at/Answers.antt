@@ -1,0 +1,27 @@
+use mathlib.Core.Path.{sym, ◌∙◌}
+use mathlib.Core.Logic.{⊎_elim}
+use Prim.Native.Nat.{◌-◌}
+use native.Mathlib.Nat.{not-suc-le-zero}
+use native.Mathlib.Omega.{arith}
+use borrow.Author.Count.{below_more}
+use Rattle.page_base.proofs.FindLaws.{at-yes, at-free, at_other, found_at, found_none}
+use borrow.Author.Rules.{rules}
+use Rattle.page_base.proofs.find.sparse_slot_at.Goals as goal
+
+pub loop-c-init : goal.loop-c-init
+loop-c-init c = (search rules, λ k l. absurd (not-suc-le-zero l))
+
+pub returns-then-bit-eq1 : goal.returns-then-bit-eq1
+returns-then-bit-eq1 c =
+    found_at _ _ _ _ _ c.loop-c-test.true c.loop-c.invariant.1
+    (at-yes _ _ _ _ (omega arith) (sym c.bit.ensures ∙ c.if-bit-eq1.true) c.if-sequences-c.true)
+
+pub loop-c-preserved : goal.loop-c-preserved
+loop-c-preserved c = (
+  search rules,
+  below_more _ _ c.loop-c.invariant.1
+      (⊎_elim (λ w. at-free _ _ _ _ (λ q. w.2.left (w.1.ensures ∙ q))) (λ w. at_other _ _ _ _ (omega arith) w.left) c.if-sequences-c.branch),
+)
+
+pub returns : goal.returns
+returns c = found_none _ _ _ _ (λ k l. c.loop-c.invariant.1 k (omega arith))
