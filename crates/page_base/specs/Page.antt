@@ -1,5 +1,5 @@
 -- One page read from its words and its part of the lent lists, and its values in their places. Definitions only. Assumes nothing.
-use Rattle.std.specs.Prelude.{◌≡◌, Bool, cond, ◌&&◌, List, [], ◌∷◌, ◌++◌, ℕ, ◌+◌, ◌*◌, ◌/◌, ◌%◌, ◌^◌, ◌≤◌, ◌<◌, ltb, eqb, get_or, take, drop}
+use Rattle.std.specs.Prelude.{◌≡◌, Bool, cond, ◌&&◌, List, [], ◌∷◌, ◌++◌, ℕ, ◌*◌, ◌/◌, ◌%◌, ◌^◌, ◌≤◌, ◌<◌, ltb, eqb, get_or, take, drop}
 use Rattle.words.specs.Word.{bit_at, is_set}
 use Rattle.window.specs.Memory.{words_per_page, word_at, with_words}
 use Rattle.model.specs.Window.{Page}

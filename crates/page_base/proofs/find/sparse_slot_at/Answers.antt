@@ -1,12 +1,11 @@
 use mathlib.Core.Path.{sym, ◌∙◌}
-use mathlib.Core.Logic.{⊎_elim}
-use Prim.Native.Nat.{◌-◌}
 use native.Mathlib.Nat.{not-suc-le-zero}
 use native.Mathlib.Omega.{arith}
 use borrow.Author.Count.{below_more}
 use Rattle.page_base.proofs.FindLaws.{at-yes, at-free, at_other, found_at, found_none}
 use borrow.Author.Rules.{rules}
 use Rattle.page_base.proofs.find.sparse_slot_at.Goals as goal
+use Rattle.page_base.proofs.find.sparse_slot_at.Goals.{then-sequences-c+else-bit-eq1, else-sequences-c}
 
 pub loop-c-init : goal.loop-c-init
 loop-c-init c = (search rules, λ k l. absurd (not-suc-le-zero l))
@@ -19,8 +18,11 @@ returns-then-bit-eq1 c =
 pub loop-c-preserved : goal.loop-c-preserved
 loop-c-preserved c = (
   search rules,
-  below_more _ _ c.loop-c.invariant.1
-      (⊎_elim (λ w. at-free _ _ _ _ (λ q. w.2.left (w.1.ensures ∙ q))) (λ w. at_other _ _ _ _ (omega arith) w.left) c.if-sequences-c.branch),
+  below_more _ _ c.loop-c.invariant.1 (
+      elim c.if-sequences-c.branch [
+        | then-sequences-c+else-bit-eq1 w ↦ at-free _ _ _ _ (λ q. w.if-bit-eq1.false (w.bit.ensures ∙ q))
+        | else-sequences-c w ↦ at_other _ _ _ _ (omega arith) w.if-sequences-c.false
+      ]),
 )
 
 pub returns : goal.returns
