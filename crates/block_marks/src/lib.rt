@@ -14,7 +14,7 @@ use window::memory::BLOCK_WORDS;
 use window::{AdaptiveReceiverPacketWindow, Cause};
 
 // nonempty: bit p, page p of the block holds a value. retired: bit p, it is marked retired. live: the block's live values.
-#[derive(Drop)]
+#[derive(Clone, Copy)]
 pub struct BlockWords {
     pub nonempty: u64,
     pub retired: u64,
@@ -22,7 +22,7 @@ pub struct BlockWords {
 }
 
 // The header and the words of one block, after a change.
-#[derive(Drop)]
+#[derive(Clone, Copy)]
 pub struct Change {
     pub window: AdaptiveReceiverPacketWindow,
     pub block: BlockWords,

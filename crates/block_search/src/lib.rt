@@ -13,7 +13,7 @@ use block_marks::block_words;
 use block_marks::marks::retired_pages;
 
 // Which of the pages that hold a value a search looks for.
-#[derive(Drop)]
+#[derive(Clone, Copy)]
 pub enum Select {
     Nonempty,
     Live,

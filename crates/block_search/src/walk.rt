@@ -10,7 +10,7 @@ use window::AdaptiveReceiverPacketWindow;
 use window::memory::PAGE_SLOTS;
 
 // What the walk finds. Unsound: a page that the masks name holds no value, or a position that it names has no cell.
-#[derive(Drop)]
+#[derive(Clone, Copy)]
 pub enum Found {
     At(u32),
     Nothing,

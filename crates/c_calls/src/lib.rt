@@ -23,7 +23,7 @@ use window::{AdaptiveReceiverPacketWindow, Created};
 // code: 0 done, 1 new, 2 replaced, 3 absent, 4 found, 5 a pair, 6 released, 7 refused; then the values of the answer, or the
 // refusal's number.
 #[repr(C)]
-#[derive(Drop)]
+#[derive(Clone, Copy)]
 pub struct NumberedAnswer {
     pub code: u32,
     pub first: u32,
@@ -34,7 +34,7 @@ pub struct NumberedAnswer {
 
 // The header after a call, its answer, and how many values it put into its return list.
 #[repr(C)]
-#[derive(Drop)]
+#[derive(Clone, Copy)]
 pub struct NumberedStep {
     pub window: AdaptiveReceiverPacketWindow,
     pub answer: NumberedAnswer,

@@ -12,7 +12,7 @@ use window::answers::Outcome;
 
 // An answer, and how many values the call put into its return list.
 #[repr(C)]
-#[derive(Drop)]
+#[derive(Clone, Copy)]
 pub struct NumberedOutcome {
     pub answer: NumberedAnswer,
     pub count: u32,

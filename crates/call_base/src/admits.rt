@@ -10,7 +10,7 @@ use window::AdaptiveReceiverPacketWindow;
 use window::refusals::{Refusal, Verdict, fits_with_list, is_wire_number};
 
 // The arguments of a call that a refusal looks at.
-#[derive(Drop)]
+#[derive(Clone, Copy)]
 pub enum Arguments {
     Nothing,
     Sequence(u32),

@@ -21,7 +21,7 @@ use window::memory::{PAGE_SLOTS, position};
 use window::refusals::{Refusal, Verdict};
 
 // The header after an insert into a page, and the answer.
-#[derive(Drop)]
+#[derive(Clone, Copy)]
 pub struct Put {
     pub window: AdaptiveReceiverPacketWindow,
     pub answer: Answer,

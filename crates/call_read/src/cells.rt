@@ -9,14 +9,14 @@ use window::AdaptiveReceiverPacketWindow;
 use window::memory::PAGE_SLOTS;
 
 // A block that was entered. live: its pages that hold a value and are not retired. reads: the retired words read so far, its own too.
-#[derive(Drop)]
+#[derive(Clone, Copy)]
 pub struct Entered {
     pub live: u64,
     pub reads: u32,
 }
 
 // The cell found, and the retired words read.
-#[derive(Drop)]
+#[derive(Clone, Copy)]
 pub struct NextCell {
     pub cell: usize,
     pub reads: u32,

@@ -23,7 +23,7 @@ use window::AdaptiveReceiverPacketWindow;
 use window::answers::Step;
 
 // What a call did; Unknown for a letter that has none.
-#[derive(Drop)]
+#[derive(Clone, Copy)]
 pub enum Called {
     Stepped(Step),
     Unknown,

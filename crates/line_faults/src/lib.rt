@@ -9,7 +9,7 @@ ghost use Rattle.line_faults.specs.Faults.{occurrences, letter_count_of, fault_o
 use line_text::{Parsed, field_count, parse};
 
 // The first that applies, in this order.
-#[derive(Drop)]
+#[derive(Clone, Copy)]
 pub enum Fault {
     // more bytes than the line's places, more than any call has
     Long,

@@ -20,7 +20,7 @@ pub const PAGE_LIST: usize = 4096 / PAGE_SLOTS * PAGE_WORDS;
 pub const BLOCK_LIST: usize = BLOCK_WORDS;
 
 // The header after a line, and the place after the output so far.
-#[derive(Drop)]
+#[derive(Clone, Copy)]
 pub struct Answered {
     pub window: AdaptiveReceiverPacketWindow,
     pub at: usize,

@@ -16,7 +16,7 @@ use window::AdaptiveReceiverPacketWindow;
 
 // What is kept between lines: the header (of zeros before an accepted n), how many bytes of a line have come (one more than its places
 // if it is too long), the place in the part of the input after what was taken, the place after the output so far, and the notes.
-#[derive(Drop)]
+#[derive(Clone, Copy)]
 pub struct Program {
     pub window: AdaptiveReceiverPacketWindow,
     pub length: usize,

@@ -6,7 +6,7 @@ ghost use Rattle.line_program.specs.Notes.{no_notes, noted};
 use line_faults::{Fault, fault_of};
 
 // The number of lines answered; whether one of them was no call, and then the number of the first, from 1 on, and what is wrong with it.
-#[derive(Drop)]
+#[derive(Clone, Copy)]
 pub struct Notes {
     pub lines: u64,
     pub unknown: bool,

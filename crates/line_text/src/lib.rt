@@ -9,14 +9,14 @@ ghost use Rattle.line_text.specs.Fields.{field_of};
 ghost use Rattle.line_text.specs.Lines.{line_of};
 
 // A field: a number, or not written as one.
-#[derive(Drop)]
+#[derive(Clone, Copy)]
 pub enum Read {
     Number(u32),
     Bad,
 }
 
 // The letter of a call and its fields, of which the first count, as many as the letter takes.
-#[derive(Drop)]
+#[derive(Clone, Copy)]
 pub struct Fields {
     pub letter: u8,
     pub first: u32,
@@ -25,7 +25,7 @@ pub struct Fields {
 }
 
 // What a line says: a call, or nothing that is one.
-#[derive(Drop)]
+#[derive(Clone, Copy)]
 pub enum Parsed {
     Call(Fields),
     Bad,

@@ -12,7 +12,7 @@ use window::refusals::is_wire_number;
 
 // What stands before the next distance that no word has decided: nothing that is lost; a run of one word; a longer run; or at that
 // distance the first word of a run whose second has not come.
-#[derive(Drop)]
+#[derive(Clone, Copy)]
 pub enum Phase {
     Clear,
     Alone,
@@ -22,7 +22,7 @@ pub enum Phase {
 
 // What a word says from there on: so many sequences that are not lost, then so many that are, and the phase after them; or that no list
 // has it there.
-#[derive(Drop)]
+#[derive(Clone, Copy)]
 pub enum Turn {
     Refused,
     Taken(u32, u32, Phase),

@@ -65,7 +65,7 @@ fn row_end(mask: u64, slot: usize) -> usize
 }
 
 // The mask of a row, whether the stretch is lost, and how many sequences it has.
-#[derive(Drop)]
+#[derive(Clone, Copy)]
 pub struct Stretch {
     pub mask: u64,
     pub lost: bool,

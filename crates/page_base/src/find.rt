@@ -8,7 +8,7 @@ use crate::PageWords;
 use window::memory::PAGE_SLOTS;
 
 // What reading a page answers.
-#[derive(Drop)]
+#[derive(Clone, Copy)]
 pub enum Read {
     Absent,
     Value(u32),

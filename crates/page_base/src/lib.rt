@@ -10,7 +10,7 @@ ghost use Rattle.page_base.specs.Page.{words_at, with_page_words, part_of};
 use window::memory::{PAGE_SLOTS, PAGE_WORDS};
 
 // kind: 0 none, 1 sparse, 2 dense. occupied: bit p, position p of the page has a value. filled: bit c, cell c is in use.
-#[derive(Drop)]
+#[derive(Clone, Copy)]
 pub struct PageWords {
     pub kind: u64,
     pub occupied: u64,
@@ -18,7 +18,7 @@ pub struct PageWords {
 }
 
 // What a removal left of a page: how many values it holds, and whether it became sparse.
-#[derive(Drop)]
+#[derive(Clone, Copy)]
 pub struct Left {
     pub values: usize,
     pub demoted: bool,

@@ -12,7 +12,7 @@ use page_base::find::slot_at;
 use window::memory::PAGE_SLOTS;
 
 // What an insert into a page answers. Unsound: the page's words do not fit each other, and nothing was written.
-#[derive(Drop)]
+#[derive(Clone, Copy)]
 pub enum InsertAnswer {
     New,
     Promoted,
@@ -22,7 +22,7 @@ pub enum InsertAnswer {
 }
 
 // The page's words after an insert, and its answer.
-#[derive(Drop)]
+#[derive(Clone, Copy)]
 pub struct Inserted {
     pub words: PageWords,
     pub answer: InsertAnswer,

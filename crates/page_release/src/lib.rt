@@ -14,7 +14,7 @@ use window::AdaptiveReceiverPacketWindow;
 use window::memory::PAGE_SLOTS;
 
 // The header after values of a page were handed back, how many they were, and whether each occupied position met had a cell.
-#[derive(Drop)]
+#[derive(Clone, Copy)]
 pub struct PageReleased {
     pub window: AdaptiveReceiverPacketWindow,
     pub count: usize,

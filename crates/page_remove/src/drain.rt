@@ -10,7 +10,7 @@ use page_base::find::slot_at;
 use window::memory::PAGE_SLOTS;
 
 // The words of a page whose lowest values were taken out, how many they were, and whether each occupied position met had a cell.
-#[derive(Drop)]
+#[derive(Clone, Copy)]
 pub struct Drained {
     pub words: PageWords,
     pub count: usize,

@@ -16,14 +16,14 @@ use page_base::{Left, PageWords};
 use window::memory::PAGE_SLOTS;
 
 // The words of a page after a removal, and what it left there.
-#[derive(Drop)]
+#[derive(Clone, Copy)]
 pub struct Settled {
     pub words: PageWords,
     pub left: Left,
 }
 
 // The same, and what the removal answers.
-#[derive(Drop)]
+#[derive(Clone, Copy)]
 pub struct Removed {
     pub words: PageWords,
     pub answer: Read,

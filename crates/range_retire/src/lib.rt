@@ -10,7 +10,7 @@ use window::AdaptiveReceiverPacketWindow;
 
 // The header after values were taken out or retired, how many were put into the return list, and whether each occupied position met
 // had a cell.
-#[derive(Drop)]
+#[derive(Clone, Copy)]
 pub struct Retired {
     pub window: AdaptiveReceiverPacketWindow,
     pub count: usize,

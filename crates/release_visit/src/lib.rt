@@ -17,7 +17,7 @@ use window::memory::page_count;
 
 // The header after a release visit, how many values were handed back, the units used, and whether the retired values held were found
 // in retired pages, each in a cell.
-#[derive(Drop)]
+#[derive(Clone, Copy)]
 pub struct Visited {
     pub window: AdaptiveReceiverPacketWindow,
     pub count: usize,

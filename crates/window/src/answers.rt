@@ -4,7 +4,7 @@ use crate::refusals::Refusal;
 
 // The answers of documents 01 and 02, for every call. Pair: a sequence, its value, the cell after it and the reads of retired words.
 // Ended: done, with these reads. Released: values and units.
-#[derive(Drop)]
+#[derive(Clone, Copy)]
 pub enum Answer {
     Done,
     New,
@@ -18,14 +18,14 @@ pub enum Answer {
 }
 
 // An answer, and how many values the call put into its return list.
-#[derive(Drop)]
+#[derive(Clone, Copy)]
 pub struct Outcome {
     pub answer: Answer,
     pub count: u32,
 }
 
 // The header after a call, and the call's outcome.
-#[derive(Drop)]
+#[derive(Clone, Copy)]
 pub struct Step {
     pub window: AdaptiveReceiverPacketWindow,
     pub answer: Outcome,

@@ -14,7 +14,7 @@ use memory::{BLOCK_WORDS, PAGE_WORDS, block_count, clear_words, page_count};
 use refusals::{Refusal, Verdict, limits, long_enough};
 
 #[repr(C)]
-#[derive(Drop)]
+#[derive(Clone, Copy)]
 pub struct AdaptiveReceiverPacketWindow {
     pub window_size: u32,
     // The cells of a sparse page: the source's N.
@@ -42,14 +42,14 @@ pub struct AdaptiveReceiverPacketWindow {
 }
 
 // What a demotion is counted under: the removal of a single value, or that of a range.
-#[derive(Drop)]
+#[derive(Clone, Copy)]
 pub enum Cause {
     Single,
     Range,
 }
 
 // What `new` answers.
-#[derive(Drop)]
+#[derive(Clone, Copy)]
 pub enum Created {
     New(AdaptiveReceiverPacketWindow),
     Refused(Refusal),

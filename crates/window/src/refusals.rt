@@ -7,7 +7,7 @@ use crate::AdaptiveReceiverPacketWindow;
 use crate::memory::{BLOCK_WORDS, PAGE_WORDS, block_count, capacity, page_count};
 
 // The refusals of documents 01 and 02, in the order of their numbers 1 to 12 (`refusal_number_of`).
-#[derive(Drop)]
+#[derive(Clone, Copy)]
 pub enum Refusal {
     WindowSize,
     SparseCells,
@@ -44,7 +44,7 @@ pub fn refusal_number(why: Refusal) -> u32
 }
 
 // What a test for refusals answers.
-#[derive(Drop)]
+#[derive(Clone, Copy)]
 pub enum Verdict {
     Pass,
     Refuse(Refusal),

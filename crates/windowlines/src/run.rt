@@ -12,7 +12,7 @@ use line_program::{Program, take_last, take_lines};
 
 // The program, how many bytes of the input have come in the part that it stands in, whether the first line that is no call was told,
 // whether a write has failed, and how many turns are left: none once the input has ended or a write has failed.
-#[derive(Drop)]
+#[derive(Clone, Copy)]
 pub struct Run {
     pub program: Program,
     pub n: usize,
