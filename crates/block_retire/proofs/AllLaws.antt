@@ -1,5 +1,5 @@
 -- Every value retired, over plain variables: the live words cleared, every block marked. Assumes nothing.
-use Rattle.std.proofs.Common.{◌≡◌, ℕ, zero, suc, ◌+◌, ◌-◌, ◌*◌, ◌%◌, ◌^◌, ◌<◌, ◌≤◌, cond, ltb, List, length, get_or, drop, set, refl, ap, ◌∙◌, mod-eq_of_lt, arith, length-set, get_or-set_other, get_or-set_same, drop-set-lt, ltb-true}
+use Rattle.std.proofs.Common.{◌≡◌, ℕ, zero, suc, ◌+◌, ◌*◌, ◌%◌, ◌^◌, ◌<◌, ◌≤◌, cond, ltb, List, length, get_or, drop, set, refl, ap, ◌∙◌, mod-eq_of_lt, arith, length-set, get_or-set_other, get_or-set_same, drop-set-lt, ltb-true}
 use native.Mathlib.Decide.{ℕ_discrete}
 use Rattle.words.proofs.CaseLaws.{bool}
 use Rattle.words.specs.Word.{span}

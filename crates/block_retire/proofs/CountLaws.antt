@@ -8,7 +8,6 @@ use Rattle.words.proofs.ChangeLaws.{with-same, with-other, with-lt}
 use Rattle.words.proofs.CountLaws.{count-le, count-clear}
 use Rattle.words.proofs.LowestLaws.{lowest-is, lowest-some}
 use Rattle.window.specs.Memory.{words_per_page, RowIn}
-use Rattle.model.specs.Table.{sum}
 use Rattle.page_base.specs.declared.PageWords.{PageWords}
 use Rattle.page_base.specs.Page.{words_at}
 use Rattle.laws_soundness.proofs.SumLaws.{sum-but, sum-le}

@@ -1,3 +1,3 @@
--- Pages and blocks retired by marks: what the functions compute (Retire), and what they promise (Contracts).
+-- Pages and blocks retired by marks: what the functions compute (Retire), and what they promise (Promises).
 pub mod Retire
 pub mod Promises
