@@ -9,7 +9,7 @@ use Rattle.model.specs.Steps.{set_point, known_by, window_does}
 use Rattle.model.specs.Sound.{Sound, SoundWithPoint}
 use Rattle.model.specs.Contract.{State, window_of, Left}
 use Rattle.page_base.proofs.DecodeLaws.{header_at}
-use Rattle.laws_soundness.specs.Change.{Proper, Sizes, sizes_of}
+use Rattle.laws_soundness.specs.Change.{Proper, sizes_of}
 use Rattle.laws_soundness.proofs.ProperLaws.{proper-decode}
 use Rattle.laws_soundness.proofs.CallLaws.{does-keeps}
 use Rattle.laws_acknowledge.proofs.WindowLaws.{Works}

@@ -1,4 +1,4 @@
-use Rattle.std.proofs.Common.{◌-◌, arith}
+use Rattle.std.proofs.Common.{arith}
 use Rattle.acknowledge.proofs.StepLaws.{pass-none, pass_all, pass-end, pass-stop, pass_on}
 use Rattle.acknowledge.proofs.advance.Goals as goal
 

@@ -1,4 +1,4 @@
-use Rattle.std.proofs.Common.{◌-◌, arith}
+use Rattle.std.proofs.Common.{arith}
 use Rattle.acknowledge.proofs.RunLaws.{row_more, end-from, end-top, used-before, unused-at}
 use Rattle.acknowledge.proofs.run.dense_run.Goals as goal
 
