@@ -15,15 +15,15 @@ HEADING = '## What one has to believe'
 # demand 3; request S-14; what is proved of loss lists; what the line program prints for its input, and the contracts of its functions
 STATEMENTS = ['crates/model/specs/Heads.antt', 'crates/laws_visits/specs/TwoVisits.antt', 'crates/model/specs/Reports.antt',
               'crates/laws_demotions/specs/Demotions.antt',
-              'crates/line_program/specs/Program.antt', 'crates/line_program/specs/Contracts.antt']
-USE = re.compile(r'^(?:ghost |pub |unfoldable pub )?use Rattle·(?P<crate>\w+)(?:·specs\.specs|\.specs|·specs)\.(?P<module>[\w.]+)', re.MULTILINE)
+              'crates/line_program/specs/Program.antt', 'crates/line_program/specs/Promises.antt']
+USE = re.compile(r'^(?:ghost |pub |unfoldable pub )?use Rattle\.(?P<crate>\w+)\.specs\.(?P<module>[\w.]+)', re.MULTILINE)
 
 
 def imported(text):
     """The files of definitions that a file's `use` lines name; a type declared in src/ has no such file."""
     for found in USE.finditer(text):
         module = found['module'].rstrip('.')
-        if not module.startswith('declared'):
+        if found['crate'] != 'std' and not module.startswith('declared'):
             yield f"crates/{found['crate']}/specs/{module.split('.')[0]}.antt"
 
 
@@ -31,7 +31,7 @@ def cited(texts):
     """The files whose names the contracts of the exported functions cite."""
     for function in exported.found(texts):
         contract = ' '.join(function.contracts)
-        for line in re.findall(r'^ghost use Rattle·.*;$', texts[function.path], re.MULTILINE):
+        for line in re.findall(r'^ghost use Rattle\..*;$', texts[function.path], re.MULTILINE):
             names = [name.split()[-1] for name in re.search(r'\{(.*)\}', line)[1].split(', ')]
             if any(re.search(rf'(?<![\w-]){re.escape(name)}(?![\w-])', contract) for name in names):
                 yield from imported(line)
@@ -61,7 +61,7 @@ def proofs(path):
         block = None
         if re.match(r'\s*(?:pub )?(?:record|data) ', line):
             block = indent
-        elif re.match(r'\s*(?:pub )?[\w«»′-]+ :(?= |$)', line):
+        elif re.match(r'\s*(?:pub )?[\w«»\'-]+ :(?= |$)', line):
             yield line.strip()
 
 

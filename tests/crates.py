@@ -26,7 +26,7 @@ def listed():
     """{name: (the crates of the repository that it uses, what it holds)}, in the order of the file."""
     crates = {}
     for line in (ROOT / 'crates.txt').read_text().splitlines():
-        found = re.fullmatch(r'(\w+):([^#]*)# (.*)', line)
+        found = re.fullmatch(r'(\w+)(?: staticlib)?:([^#]*)# (.*)', line)
         if found:
             crates[found[1]] = (found[2].split(), found[3])
         elif not line.startswith('#'):

@@ -9,10 +9,11 @@ which is no call, and the loss reports, which write lists of their own, have rec
 and the whole soundness. Every call of `Call` and `Query` is exported, and every exported function is of a call there, so that demand 3
 speaks of it. The order of refusals is computed for every call.
 
-    tests/exported.py               the test; the logs of the last check are read, so the crates must be proved first
+    tests/exported.py               the test; the logs of ./library and ./program are read, which are run first
     tests/exported.py --selftest    wrong contracts, each of which must be noticed
 """
 import re
+import subprocess
 import sys
 from pathlib import Path
 
@@ -28,82 +29,98 @@ KINDS = {
     'call_check': BY_VALUE,
     'call_host': ('', 'HostMeetsBy', 'HostMeetsInto', 'call_host', 'Lent'),
     'c_calls': ('packet_window_', 'NumbersMeetBy', 'NumbersMeetInto', 'c_calls', 'Numbers'),
+    'c_calls_c': ('packet_window_', 'NumbersMeetBy', 'NumbersMeetInto', 'c_calls', 'Numbers'),
     'c_audit': ('packet_window_', 'NumbersMeetBy', 'NumbersMeetInto', 'c_calls', 'Numbers'),
     'c_host': ('packet_window_host_', 'OutcomeMeetsBy', 'OutcomeMeetsInto', 'c_host', 'Outcomes'),
 }
 # what is no call: crate, function, its whole contract
-OTHERS = {('c_calls', 'packet_window_version'): 'r ≡ version'}
+OTHERS = {('c_calls', 'packet_window_version'): 'result ≡ version', ('c_calls_c', 'packet_window_version'): 'result ≡ version_of'}
 # the loss reports, which have lists of their own: of each function the record, its file in the crate's specs/, the lists after the four
 REPORTS = {
     ('call_losses', 'write_losses'): ('WritesLossesBy', 'Reports', ['words']),
     ('call_losses', 'read_losses'): ('ReadsLossesBy', 'Reports', ['words', 'lost']),
-    ('c_losses', 'packet_window_write_losses'): ('NumbersWriteLossesBy', 'Contracts', ['words']),
-    ('c_losses', 'packet_window_read_losses'): ('NumbersReadLossesBy', 'Contracts', ['words', 'lost']),
+    ('c_losses', 'packet_window_write_losses'): ('NumbersWriteLossesBy', 'Promises', ['words']),
+    ('c_losses', 'packet_window_read_losses'): ('NumbersReadLossesBy', 'Promises', ['words', 'lost']),
 }
 # new: crate, function, record, where it is defined
-NEW = [('window', 'new', 'NewBy', 'window', 'New'), ('c_calls', 'packet_window_new', 'CreatesBy', 'c_calls', 'Numbers')]
+NEW = [('window', 'new', 'NewBy', 'window', 'New'), ('c_calls', 'packet_window_new', 'CreatesBy', 'c_calls', 'Numbers'),
+       ('c_calls_c', 'packet_window_new', 'CreatesBy', 'c_calls', 'Numbers')]
 TEXT = {'line_text': ['parse'], 'line_calls': ['call', 'live_pairs'], 'line_faults': ['fault_of'], 'line_output': ['put_line', 'put_list', 'put_unknown'],
         'line_program': ['answer_line', 'take_lines', 'take_last', 'note']}
 # the functions there that ask for what the line program keeps between lines: every `requires` and `ensures`, word for word
 KEPT = 'KeptIn {} sequences values pages blocks'
+LENT = ' '.join(f'(lent_mut {name})' for name in LISTS)
 KEEPS = {
     ('line_program', 'answer_line'): (
         [KEPT.format('w'), 'at ≤ 65536'],
-        ['AnswersBy (λ k. saidLine k (gathered (now (line .entry)) length)) w sequences values pages blocks out at r']),
+        [f'AnswersBy (λ k. said_line k (gathered line.now length)) w {LENT} out at result']),
     ('line_program', 'take_lines'): (
-        [KEPT.format('(p .window)'), 'p .from ≤ length (now part)'],
-        ['TakesBy p (now (part .entry)) line sequences values pages blocks out r', 'Stops p (length (now (part .entry))) r',
-         'Kept (stateOf (r .window) (leftIn sequences values pages blocks))']),
+        [KEPT.format('p.window'), 'p.from ≤ length part.now'],
+        [f'TakesBy p part.now line {LENT} out result', 'Stops p (length part.now) result',
+         f'Kept (state_of result.window (left_in {LENT}))']),
     ('line_program', 'take_last'): (
-        [KEPT.format('(p .window)'), 'p .at ≤ 65536'],
-        ['EndsBy p line sequences values pages blocks out r']),
+        [KEPT.format('p.window'), 'p.at ≤ 65536'],
+        [f'EndsBy p line {LENT} out result']),
 }
 # where the order of refusals is computed, at `order`
 EXAMPLES = 'crates/model/proofs/Examples.antt'
 # what the records say: each line stands in its file, word for word
 DEFINED = {
-    'crates/model/specs/Contract.antt': ['Does = DoesAs windowStep SoundWithPoint', 'Meets = MeetsAs windowStep SoundWithPoint'],
-    'crates/model/specs/Heads.antt': ['  pub meets : Meets (e .call) u list left'],
+    'crates/model/specs/Contract.antt': ['Does = DoesAs window_step SoundWithPoint', 'Meets = MeetsAs window_step SoundWithPoint'],
+    'crates/model/specs/Heads.antt': ['  pub meets : Meets e.call u list left'],
+    'crates/window/specs/Lent.antt': [
+        'lent x = record { entry = x.entry.now; exit = x.exit.now }',
+        'lent_mut x = record { entry = x.entry.now; exit = x.exit.now }'],
     'crates/call_base/specs/Answers.antt': [
-        'MeetsBy c w ss vs pages blocks r = Meets c (stateOf w (foundIn ss vs pages blocks)) [] (leftOf r (leftIn ss vs pages blocks) [])',
-        '    Meets (c (leb 384 (length (now (l .entry))))) (stateOf w (foundIn ss vs pages blocks)) (now (l .entry)) (leftOf r (leftIn ss vs pages blocks) (now (l .exit)))'],
-    'crates/line_program/specs/Contracts.antt': [
-        'KeptIn w s v p b = Kept (stateOf w (memory (now s) (now v) (now p) (now b)))',
-        '    × Answers (p (keptOf (stateOf w (foundIn ss vs pages blocks)))) (stateOf (r .window) (leftIn ss vs pages blocks)) at (now (out .entry)) (r .at) (now (out .exit))',
-        '  pub answers : Answers (linesDo (keptOf u) (ended (parts 10 (b ++ taken)))) u′ at out (r .at) out′',
-        '  pub waits : Holds line′ (r .length) (waiting (parts 10 (b ++ taken)))',
-        '  pub notes : r .notes ≡ notedLines (keptOf u) n (ended (parts 10 (b ++ taken)))'],
+        'MeetsBy c w ss vs pages blocks r = Meets c (state_of w (found_in ss vs pages blocks)) [] (left_of r (left_in ss vs pages blocks) [])',
+        '    Meets (c (nat_le 384 (length l.entry))) (state_of w (found_in ss vs pages blocks)) l.entry (left_of r (left_in ss vs pages blocks) l.exit)'],
+    'crates/line_program/specs/Promises.antt': [
+        'KeptIn w s v p b = Kept (state_of w (memory s.now v.now p.now b.now))',
+        '    × Answers (p (kept_of (state_of w (found_in ss vs pages blocks)))) (state_of r.window (left_in ss vs pages blocks)) at out.entry.now r.at out.exit.now',
+        "  pub answers : Answers (lines_do (kept_of u) (ended (parts 10 (b ++ taken)))) u' at out r.at out'",
+        "  pub waits : Holds line' r.length (waiting (parts 10 (b ++ taken)))",
+        '  pub notes : r.notes ≡ noted_lines (kept_of u) n (ended (parts 10 (b ++ taken)))'],
     'crates/call_host/specs/Lent.antt': [
-        'HostMeetsBy c w ss vs pages blocks r = Meets c (stateOf (now (w .entry)) (foundIn ss vs pages blocks)) [] (leftAt (now (w .exit)) r (leftIn ss vs pages blocks) [])',
-        '    Meets (c (leb 384 (length (now (l .entry))))) (stateOf (now (w .entry)) (foundIn ss vs pages blocks)) (now (l .entry))'],
+        'HostMeetsBy c w ss vs pages blocks r = Meets c (state_of w.entry.now (found_in ss vs pages blocks)) [] (left_at w.exit.now r (left_in ss vs pages blocks) [])',
+        '    Meets (c (leb 384 (length l.entry))) (state_of w.entry.now (found_in ss vs pages blocks)) l.entry'],
     'crates/c_calls/specs/Numbers.antt': [
-        '  pub numbers : r .answer ≡ numbersOf answer',
-        '  pub meets : Meets c u l (record { answer = answer; count = r .count; state = stateOf (r .window) m; list = l′ })'],
+        '  pub numbers : r.answer ≡ numbers_of answer',
+        "  pub meets : Meets c u l (record { answer = answer; count = r.count; state = state_of r.window m; list = l' })"],
     'crates/model/specs/Reports.antt': [
-        '  pub meets : Meets (ask (write-losses first last (length l))) u [] r',
-        '  pub meets : Meets (ask (read-losses first last words (length l))) u [] r',
-        '  pub losses : (n : ℕ) → r .answer ≡ found n → SoundWithPoint (windowOf u) → take n l′ ≡ reportOf u first last'],
+        '  pub meets : Meets (ask (write_losses first last (length l))) u [] r',
+        '  pub meets : Meets (ask (read_losses first last words (length l))) u [] r',
+        "  pub losses : (n : ℕ) → r.answer ≡ found n → SoundWithPoint (window_of u) → take n l' ≡ report_of u first last"],
     'crates/call_losses/specs/Reports.antt': [
-        '    WritesLosses first last (stateOf w (foundIn ss vs pages blocks)) (now (words .entry)) (leftOf r (leftIn ss vs pages blocks) []) (now (words .exit))',
-        '    ReadsLosses first last (now (words .entry)) (stateOf w (foundIn ss vs pages blocks)) (now (lost .entry)) (leftOf r (leftIn ss vs pages blocks) []) (now (lost .exit))'],
-    'crates/c_losses/specs/Contracts.antt': [
-        '  pub numbers : r .answer ≡ numbersOf answer',
-        '  pub left : Asked (record { answer = answer; count = r .count; state = stateOf (r .window) m; list = [] })',
-        '    InNumbers (λ (left : Left). WritesLosses first last (stateOf w (foundIn ss vs pages blocks)) (now (words .entry)) left (now (words .exit))) r (leftIn ss vs pages blocks)',
-        '    InNumbers (λ (left : Left). ReadsLosses first last (now (words .entry)) (stateOf w (foundIn ss vs pages blocks)) (now (lost .entry)) left (now (lost .exit))) r (leftIn ss vs pages blocks)'],
+        '    WritesLosses first last (state_of w (found_in ss vs pages blocks)) words.entry (left_of r (left_in ss vs pages blocks) []) words.exit',
+        '    ReadsLosses first last words.entry (state_of w (found_in ss vs pages blocks)) lost.entry (left_of r (left_in ss vs pages blocks) []) lost.exit'],
+    'crates/c_losses/specs/Promises.antt': [
+        '  pub numbers : r.answer ≡ numbers_of answer',
+        '  pub left : Asked (record { answer = answer; count = r.count; state = state_of r.window m; list = [] })',
+        '    InNumbers (λ (left : Left). WritesLosses first last (state_of w (found_in ss vs pages blocks)) words.entry left words.exit) r (left_in ss vs pages blocks)',
+        '    InNumbers (λ (left : Left). ReadsLosses first last words.entry (state_of w (found_in ss vs pages blocks)) lost.entry left lost.exit) r (left_in ss vs pages blocks)'],
     'crates/c_host/specs/Outcomes.antt': [
-        '  pub numbers : r .answer ≡ numbersOf answer',
-        '  pub meets : Meets c u l (record { answer = answer; count = r .count; state = stateOf w m; list = l′ })'],
+        '  pub numbers : r.answer ≡ numbers_of answer',
+        "  pub meets : Meets c u l (record { answer = answer; count = r.count; state = state_of w m; list = l' })"],
 }
-AXIOMS = {'windowlines': 'libc::read, libc::write'}
+# of what is compiled, each with what it uses; rt names for these alone what they assume
+COMPILED = ['c_calls_c', 'c_audit', 'c_host', 'c_losses', 'windowlines']
+AXIOMS = {'windowlines': 'libc::read, libc::write, os::c::rattle_errno'}
 
 
 class Function:
     def __init__(self, crate, path, found):
         self.crate, self.path, self.name, self.head = crate, path, found['name'], found['head']
-        self.parameters = [p.split(':')[0].strip() for p in found['parameters'].split(',') if p.strip()]
-        self.contracts = [' '.join(text.split()) for text in re.findall(r'ensures \{ λ r\. ⌜(.*?)⌝ \}', self.head, re.DOTALL)]
-        self.asks = [' '.join(text.split()) for text in re.findall(r'requires \{ ⌜(.*?)⌝ \}', self.head, re.DOTALL)]
+        self.kinds = dict(re.findall(r'(\w+):\s*([^,]+)', found['parameters']))
+        self.parameters = list(self.kinds)
+        self.contracts, self.asks = self.clauses('ensures'), self.clauses('requires')
+
+    def clauses(self, kind):
+        """The texts of the clauses of a kind, whatever their names."""
+        return [' '.join(text.split()) for text in re.findall(rf'^ +{kind}\*?(?: \w+)? \{{ (.*?) \}}$', self.head, re.DOTALL | re.MULTILINE)]
+
+    def lent(self, names):
+        """The lists of these names as a contract has them, by how they are lent."""
+        return ' '.join(f"({'lent_mut' if self.kinds[name].startswith('&mut') else 'lent'} {name})" for name in names)
 
     def wrong(self, text):
         return f'{self.crate}::{self.name}: {text}'
@@ -119,14 +136,14 @@ def functions(texts, crate):
 def imports(text, module):
     """The names that a file takes from a module of specs, by the name it uses: {used: original}."""
     names = {}
-    for line in re.findall(rf'^ghost use Rattle·{module}\.\{{(.*)\}};$', text, re.MULTILINE):
+    for line in re.findall(rf'^ghost use Rattle\.{module}\.\{{(.*)\}};$', text, re.MULTILINE):
         for name in line.split(', '):
             names[name.split()[-1]] = name.split()[0]
     return names
 
 
-def specs(crate, own, module):
-    return rf'{crate}(?:·specs)?\.specs\.{module}' if own else rf'{crate}\.specs\.{module}'
+def specs(crate, module):
+    return rf'{crate}\.specs\.{module}'
 
 
 def constructors(texts):
@@ -135,9 +152,9 @@ def constructors(texts):
     found = {}
     for kind, query in (('Query', True), ('Call', False)):
         block = re.search(rf'^pub data {kind} : Type 0 where\n((?:  .*\n)+)', text, re.MULTILINE)[1]
-        for name in re.findall(r'^  ([\w-]+) :', block, re.MULTILINE):
+        for name in re.findall(r'^  (\w+) :', block, re.MULTILINE):
             if name != 'ask':
-                found[name.replace('-', '_')] = query
+                found[name] = query
     return found
 
 
@@ -148,15 +165,15 @@ def contract(function, call, query, kind, text):
     lists = LISTS + ['returned'] if listed else LISTS
     record = into if listed else by
     arguments = [p for p in function.parameters if p not in ['w'] + lists]
-    calls = [used for used, name in imports(text, r'model\.specs\.Calls').items() if name == call.replace('_', '-')]
-    records = imports(text, specs(crate, crate == function.crate, module))
+    calls = [used for used, name in imports(text, r'model\.specs\.Calls').items() if name == call]
+    records = imports(text, specs(crate, module))
     if records.get(record) != record:
         return f'{record} does not come from crates/{crate}/specs/{module}.antt'
     wanted = []
     for used in calls:
         made = f"({' '.join([used] + arguments)})" if arguments else used
         made = f'(ask {made})' if query else made
-        wanted.append(f"{record} {made} w {' '.join(lists)} r")
+        wanted.append(f'{record} {made} w {function.lent(lists)} result')
     if function.contracts not in [[text] for text in wanted]:
         return f'its contract is {function.contracts}, not {wanted}'
     return None
@@ -186,18 +203,18 @@ def problems(texts):
         for function in functions(texts, crate):
             if function.name == name and 'pub' in function.head:
                 seen[crate, name] = function
-                taken = ['w'] + LISTS + lists
-                wanted = f"{record} first last {' '.join(taken)} r"
-                if function.parameters != taken + ['first', 'last'] or function.contracts != [wanted] \
-                        or imports(texts[function.path], specs(crate, True, module)).get(record) != record:
+                taken = LISTS + lists
+                wanted = f'{record} first last w {function.lent(taken)} result'
+                if function.parameters != ['w', *taken, 'first', 'last'] or function.contracts != [wanted] \
+                        or imports(texts[function.path], specs(crate, module)).get(record) != record:
                     wrong.append(function.wrong(f'its contract is {function.contracts}, not {wanted!r}'))
     for crate, name, record, home, module in NEW:
         for function in functions(texts, crate):
             if function.name == name and 'pub' in function.head:
                 seen[crate, name] = function
-                numbers = [f'«{p}»' if '_' in p else p for p in function.parameters if p not in LISTS]
-                wanted = f"{record} {' '.join(numbers)} {' '.join(LISTS)} r"
-                if function.contracts != [wanted] or imports(texts[function.path], specs(home, home == crate, module)).get(record) != record:
+                numbers = [p for p in function.parameters if p not in LISTS]
+                wanted = f"{record} {' '.join(numbers)} {function.lent(LISTS)} result"
+                if function.contracts != [wanted] or imports(texts[function.path], specs(home, module)).get(record) != record:
                     wrong.append(function.wrong(f'its contract is {function.contracts}, not {wanted!r}'))
     for crate, names in TEXT.items():
         for function in functions(texts, crate):
@@ -208,7 +225,7 @@ def problems(texts):
                         wrong.append(function.wrong(f'it asks {function.asks} and its contract is {function.contracts}'))
                 elif len(function.contracts) != 1:
                     wrong.append(function.wrong('it has no ensures'))
-    wrong += [function.wrong('it has a requires') for place, function in seen.items() if 'requires {' in function.head and place not in KEEPS]
+    wrong += [function.wrong('it has a requires') for place, function in seen.items() if 'requires' in function.head and place not in KEEPS]
     names = {name for crate, name in seen}
     wrong += [f'{name} is not exported by value' for name in calls if name not in {n for c, n in seen if KINDS.get(c) == BY_VALUE or c == 'call_losses'}]
     wrong += [f'packet_window_{name} was not found' for name in [*calls, 'new'] if f'packet_window_{name}' not in names]
@@ -228,46 +245,49 @@ def read():
 
 
 def axioms(crate):
-    log = (ROOT / 'target/log' / f'{crate}.out').read_text()
+    log = (ROOT / 'target' / f'{crate}.said').read_text()
     return ', '.join(re.findall(r'^axioms \w+: (.*?) \(', log, re.MULTILINE))
 
 
 # each wrong contract: file, old text, new text
 WRONG = [
     # a reflexivity for a contract
-    ('crates/c_audit/src/lib.rt', 'NumbersMeetBy (ask (strangerOf first last)) w sequences values pages blocks r', 'r ≡ r'),
+    ('crates/c_audit/src/lib.rt', 'NumbersMeetBy (ask (stranger_of first last)) w (lent sequences) (lent values) (lent pages) (lent blocks) result', 'result ≡ result'),
     # the contract of another call
-    ('crates/c_audit/src/lib.rt', 'NumbersMeetBy (ask (strangerOf first last))', 'NumbersMeetBy (ask checkOf)'),
-    ('crates/call_point/src/remove.rt', 'remove as removeOf', 'exchange as removeOf'),
+    ('crates/c_audit/src/lib.rt', 'NumbersMeetBy (ask (stranger_of first last))', 'NumbersMeetBy (ask check_of)'),
+    ('crates/call_point/src/remove.rt', 'remove as remove_of', 'exchange as remove_of'),
     # another argument
-    ('crates/call_read/src/stranger.rt', 'MeetsBy (ask (strangerOf first last))', 'MeetsBy (ask (strangerOf first first))'),
+    ('crates/call_read/src/stranger.rt', 'MeetsBy (ask (stranger_of first last))', 'MeetsBy (ask (stranger_of first first))'),
     # the contract of an inner function: what the call does, without its refusals
-    ('crates/call_read/src/lib.rt', 'MeetsBy (ask (getOf sequence)) w sequences values pages blocks r', 'AdmittedBy (ask (getOf sequence)) w sequences values pages blocks r'),
+    ('crates/call_read/src/lib.rt', 'MeetsBy (ask (get_of sequence)) w (lent sequences)', 'AdmittedBy (ask (get_of sequence)) w (lent sequences)'),
     # a record of the same name from elsewhere
-    ('crates/call_read/src/lib.rt', 'Rattle·call_base.specs.Answers.{MeetsBy}', 'Rattle·call_read·specs.specs.Contracts.{MeetsBy}'),
+    ('crates/call_read/src/lib.rt', 'Rattle.call_base.specs.Answers.{MeetsBy}', 'Rattle.call_read.specs.Promises.{MeetsBy}'),
     # the contract of every call at what the call does, not at the whole step; with a soundness that leaves base and point out; on no window
-    ('crates/model/specs/Contract.antt', 'Meets = MeetsAs windowStep SoundWithPoint', 'Meets = MeetsAs windowDoes SoundWithPoint'),
-    ('crates/model/specs/Contract.antt', 'Meets = MeetsAs windowStep SoundWithPoint', 'Meets = MeetsAs windowStep Sound'),
-    ('crates/model/specs/Contract.antt', 'Meets = MeetsAs windowStep SoundWithPoint', 'Meets = MeetsAs windowStep (λ w. ⊥)'),
+    ('crates/model/specs/Contract.antt', 'Meets = MeetsAs window_step SoundWithPoint', 'Meets = MeetsAs window_does SoundWithPoint'),
+    ('crates/model/specs/Contract.antt', 'Meets = MeetsAs window_step SoundWithPoint', 'Meets = MeetsAs window_step Sound'),
+    ('crates/model/specs/Contract.antt', 'Meets = MeetsAs window_step SoundWithPoint', 'Meets = MeetsAs window_step (λ w. ⊥)'),
     # the loss reports: another range, the other call, a list that is written where it should be read
     ('crates/call_losses/src/lib.rt', 'WritesLossesBy first last w', 'WritesLossesBy first first w'),
-    ('crates/c_losses/src/lib.rt', 'NumbersReadLossesBy first last w sequences values pages blocks words lost r', 'NumbersWriteLossesBy first last w sequences values pages blocks words r'),
-    ('crates/model/specs/Reports.antt', 'Meets (ask (read-losses first last words (length l))) u [] r', 'Meets (ask (read-losses first last words 0)) u [] r'),
+    ('crates/c_losses/src/lib.rt', 'NumbersReadLossesBy first last w (lent sequences) (lent values) (lent pages) (lent blocks) (lent words) (lent_mut lost) result', 'NumbersWriteLossesBy first last w (lent sequences) (lent values) (lent pages) (lent blocks) (lent words) result'),
+    ('crates/model/specs/Reports.antt', 'Meets (ask (read_losses first last words (length l))) u [] r', 'Meets (ask (read_losses first last words 0)) u [] r'),
     # what can be asked of no caller
-    ('crates/call_read/src/lib.rt', 'ensures { λ r. ⌜ MeetsBy (ask (getOf sequence))', 'requires { ⌜ ListsFit w sequences values pages blocks ⌝ }\n    ensures { λ r. ⌜ MeetsBy (ask (getOf sequence))'),
+    ('crates/call_read/src/lib.rt', 'ensures { MeetsBy (ask (get_of sequence))', 'requires { ListsFit w sequences.now values.now pages.now blocks.now }\n    ensures { MeetsBy (ask (get_of sequence))'),
     # an exported call that is no call of the model, and a call that is not exported
     ('crates/model/specs/Calls.antt', '  stranger : (first last : ℕ) → Query\n', ''),
     ('crates/c_audit/src/lib.rt', 'fn packet_window_check(', 'fn packet_window_checked('),
     # the version
-    ('crates/c_calls/src/version.rt', 'r ≡ version', 'r ≡ r'),
+    ('crates/c_calls/src/version.rt', 'result ≡ version', 'result ≡ result'),
+    # what the exports of c_calls repeat
+    ('crates/c_calls_c/src/lib.rt', 'NumbersMeetInto (insert_of sequence value)', 'NumbersMeetInto (insert_of value sequence)'),
+    ('crates/c_calls_c/src/lib.rt', 'result ≡ version_of', 'result ≡ result'),
     # new
-    ('crates/c_calls/src/lib.rt', 'CreatesBy «window_size» n «demote_at»', 'CreatesBy «window_size» n n'),
-    ('crates/call_host/src/lib.rt', 'HostMeetsBy (removeOf sequence) w', 'HostMeetsBy (removeOf 0) w'),
-    ('crates/c_host/src/lib.rt', 'OutcomeMeetsInto (release-retired budget)', 'OutcomeMeetsInto (release-retired 256)'),
+    ('crates/c_calls/src/lib.rt', 'CreatesBy window_size n demote_at', 'CreatesBy window_size n n'),
+    ('crates/call_host/src/lib.rt', 'HostMeetsBy (remove_of sequence) w', 'HostMeetsBy (remove_of 0) w'),
+    ('crates/c_host/src/lib.rt', 'OutcomeMeetsInto (release_retired budget)', 'OutcomeMeetsInto (release_retired 256)'),
     # the line program: of no bytes of the line; where it stops is not said; a part that has been taken is not allowed for
-    ('crates/line_program/src/answer.rt', 'saidLine k (gathered (now (line .entry)) length)', 'saidLine k (gathered (now (line .entry)) 0)'),
-    ('crates/line_program/src/lib.rt', 'Stops p (length (now (part .entry))) r', 'r ≡ r'),
-    ('crates/line_program/src/lib.rt', '    requires { ⌜ p .from ≤ length (now part) ⌝ }', '    requires { ⌜ p .from < length (now part) ⌝ }'),
+    ('crates/line_program/src/answer.rt', 'said_line k (gathered line.now length)', 'said_line k (gathered line.now 0)'),
+    ('crates/line_program/src/lib.rt', 'Stops p (length part.now) result', 'result ≡ result'),
+    ('crates/line_program/src/lib.rt', '    requires from_in_bounds { p.from ≤ length part.now }', '    requires from_in_bounds { p.from < length part.now }'),
 ]
 
 
@@ -290,17 +310,18 @@ def main():
         return selftest()
     texts = read()
     wrong, seen = problems(texts)
-    computed = re.findall(r'[\w-]+', (ROOT / EXAMPLES).read_text().partition('\norder :')[2])
-    wrong += [f'{EXAMPLES}: order has no {name}' for name in constructors(texts) if name.replace('_', '-') not in computed]
-    crates = [line.split(':')[0] for line in (ROOT / 'crates.txt').read_text().splitlines() if line and line[0] != '#']
-    for crate in crates:
+    computed = re.findall(r'\w+', (ROOT / EXAMPLES).read_text().partition('\norder :')[2])
+    wrong += [f'{EXAMPLES}: order has no {name}' for name in constructors(texts) if name not in computed]
+    for script in ('library', 'program'):
+        subprocess.run([ROOT / script], check=True, stdout=subprocess.DEVNULL)
+    for crate in COMPILED:
         if axioms(crate) != AXIOMS.get(crate, ''):
             wrong.append(f'{crate} reports the axioms {axioms(crate)!r}')
-    readme = (ROOT / 'README.md').read_text()
-    wrong += [f'README does not name {name}' for name in ('libc::read', 'libc::write') if name not in readme]
+    readme, named = (ROOT / 'README.md').read_text(), ', '.join(AXIOMS.values()).split(', ')
+    wrong += [f'README does not name {name}' for name in named if name not in readme]
     for line in wrong:
         print(line)
-    print(f'{len(seen)} exported functions, each with the contract of its own call, 2 axioms in {len(crates)} crates')
+    print(f'{len(seen)} exported functions, each with the contract of its own call, {len(named)} axioms in {len(COMPILED)} crates and those that they use')
     return 1 if wrong else 0
 
 

@@ -171,7 +171,7 @@ def scripts():
 
 def main():
     if not PROGRAM.exists():
-        raise SystemExit(f'{PROGRAM} is not built: rt check windowlines')
+        raise SystemExit(f'{PROGRAM} is not built: ./program')
     faults()
     runs()
     failures()

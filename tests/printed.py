@@ -10,7 +10,6 @@ The theorem of a file says that `windowlines` of the bytes of its calls is the b
 them, and what is printed, byte for byte.
 """
 import re
-import shutil
 import sys
 import time
 from pathlib import Path
@@ -19,14 +18,13 @@ import runs
 
 ROOT = runs.ROOT
 EXAMPLES = ROOT / 'examples/lines'
-PROGRAM = 'line_program'
 # those whose definitions are run
-CRATES = [*runs.CRATES, 'line_text', 'line_output', 'line_calls', PROGRAM]
+CRATES = [*runs.CRATES, 'line_text', 'line_output', 'line_calls', 'line_program']
 LINES = 100  # of a file; on large windows a search is costly, and longer lists meet the kit's limit of steps for a theorem
 
 HEAD = '''-- Files of calls and what is printed for them, by computation. Written by tests/printed.py. Assumes nothing.
-use mathlib.Core.Path.{_≡_, refl}
-use mathlib.Core.List.{List, [], _∷_}
+use mathlib.Core.Path.{◌≡◌, refl}
+use mathlib.Core.List.{List, [], ◌∷◌}
 use Prim.Native.Nat.{ℕ}
 @USES@
 
@@ -56,41 +54,8 @@ class Module:
         self.theorems[name] = about
 
 
-def needed(crate):
-    """A crate and all that it rests on, in the order of crates.txt: its name and its row."""
-    rows = [row for row in (ROOT / 'crates.txt').read_text().splitlines() if re.match(r'\w+:', row)]
-    wanted = {crate}
-    for row in reversed(rows):
-        name, rest = row.split(':', 1)
-        if name in wanted:
-            wanted |= set(rest.split('#')[0].split())
-    return [(row.split(':')[0], row) for row in rows if row.split(':')[0] in wanted]
-
-
-def lay_out(folder, crates):
-    """The crates as they were proved, by links, and crates of theorems over them: the modules of each, by its name."""
-    below = needed(PROGRAM)
-    for part in ('crates', 'target/rlib', 'target/stamp'):
-        (folder / part).mkdir(parents=True)
-    for name, _ in below:
-        (folder / 'crates' / name).symlink_to(ROOT / 'crates' / name)
-        (folder / 'target/rlib' / (name + '.rlib')).symlink_to(ROOT / 'target/rlib' / (name + '.rlib'))
-        shutil.copy(ROOT / 'target/stamp' / name, folder / 'target/stamp' / name)
-    rows = [row for _, row in below]
-    for crate, modules in crates.items():
-        texts = {'src/lib.rt': '// Theorems only. See proofs/.', 'specs/Lib.antt': '-- None.', 'proofs/Lib.antt': '\n'.join('pub mod ' + module.name for module in modules)}
-        for module in modules:
-            texts['proofs/%s.antt' % module.name] = '\n'.join(module.lines)
-        for name, text in texts.items():
-            path = folder / 'crates' / crate / name
-            path.parent.mkdir(parents=True, exist_ok=True)
-            path.write_text(text + '\n')
-        rows.append('%s: %s' % (crate, ' '.join(reversed(CRATES))))
-    (folder / 'crates.txt').write_text('\n'.join(rows) + '\n')
-
-
 def prove(module):
-    return runs.prove({'printed': [module]}, PROGRAM, lay_out)
+    return runs.prove({'printed': [module]}, CRATES, {})
 
 
 def beginning(data):

@@ -7,8 +7,8 @@
 
 Each line of calls and its line of answers becomes an entry of a list, and the theorem says that the definitions, run from
 the window that `new` leaves, give that list again (`replay`): answers, len, retired_held, promotions, demotions, values
-returned in order, and for l the pairs of `livePairs` in order. The proof is `refl`: the prover computes. So it does for the
-plain table (`tableTells`: what Roles.antt says that the table tells of an answer) and for positions (`placed`).
+returned in order, and for l the pairs of `live_pairs_of` in order. The proof is `refl`: the prover computes. So it does for the
+plain table (`table_tells`: what Roles.antt says that the table tells of an answer) and for positions (`placed`).
 
 With the oracle at hand a run is cut into short pieces. A piece ends with the source's own words, which the definitions must
 give too (`stands`: header, block words, page words, cells in use), and the next piece begins with the window that has those
@@ -21,7 +21,7 @@ To add
 - a letter: a row of LETTERS (and of NUMBERS, if it prints a number that is not `found`), and of COST if it searches. A new
   answer: `answer_text`, and `printed` in REPLAY.
 - a field of the header: its name in HEADER, at its place in the oracle's line of words. A word of a block: BLOCK. A word of a
-  page: `page_text`, and PageWords, pageWordsOf and pageOf in REPLAY.
+  page: `page_text`, and PageWords, page_words_of and page_of in REPLAY.
 - an argument of new: `asked` and its clauses in REPLAY. A refusal or another definition: nothing.
 """
 import os
@@ -32,6 +32,7 @@ import sys
 import tempfile
 import time
 from collections import namedtuple
+from concurrent.futures import ThreadPoolExecutor
 from pathlib import Path
 
 ROOT = Path(__file__).resolve().parent.parent
@@ -41,9 +42,9 @@ CRATES = ['words', 'window', 'model']  # those whose definitions are run
 
 # The letters of the line program, each with its call (crates/model/specs/Calls.antt). A return list has 384 places.
 LETTERS = {
-    'i': 'insert {} {} true', 'g': 'ask (get {})', 'r': 'remove {}', 's': 'ask (successor-after {})', 'f': 'ask (first-from {})',
-    'e': 'exchange {} {}', 'd': 'remove-range {} {} true', 'q': 'ask (stranger {} {})', 'b': 'clear-bounded {} true',
-    'v': 'release-retired {} true', 'c': 'clear true', 'a': 'set-base {}', 't': 'take-front',
+    'i': 'insert {} {} true', 'g': 'ask (get {})', 'r': 'remove {}', 's': 'ask (successor_after {})', 'f': 'ask (first_from {})',
+    'e': 'exchange {} {}', 'd': 'remove_range {} {} true', 'q': 'ask (stranger {} {})', 'b': 'clear_bounded {} true',
+    'v': 'release_retired {} true', 'c': 'clear true', 'a': 'set_base {}', 't': 'take_front',
 }
 NUMBERS = {'q': 'pair {} 0 0 0'}  # what a number says that a letter prints; `found` for the others
 # The header's fields in the order in which `oracle --words` prints them (oracle/src/state.rs).
@@ -63,19 +64,16 @@ RUN = 120       # of a run on a larger window, costly calls apart
 LARGEST = 5000  # of a call there; a costlier one is left out, since it may meet the kit's limit of steps
 
 REPLAY = '''-- A run of the line program as a list of entries, and what the definitions make of it. Definitions only. Assumes nothing.
-use mathlib.Core.Bool.{Bool, true, false, _&&_}
-use mathlib.Core.Option.{Option, none, some}
-use mathlib.Core.List.{List, [], _∷_}
-use Prim.Native.Nat.{ℕ, zero, suc}
-use lib.Dec.{eqb}
-use Rattle·words.specs.Word.{isSet}
-use Rattle·window.specs.declared.AdaptiveReceiverPacketWindow.{AdaptiveReceiverPacketWindow}
-use Rattle·model.specs.Calls.{@CALLS@}
-use Rattle·model.specs.Roles.{roleOf, toldOf}
-use Rattle·model.specs.Table.{Pair, TableState, tableStep}
-use Rattle·model.specs.Positions.{Positions, step}
-use Rattle·model.specs.Window.{Page, Block, Window, window, noBlock, pagesOf, blocksOf, livePairs}
-use Rattle·model.specs.Steps.{windowStep, demotionsOf}
+use Rattle.std.specs.Prelude.{Bool, true, false, ◌&&◌, List, [], ◌∷◌, ℕ, zero, suc, eqb}
+use Rattle.std.proofs.Math.Option.{Option, none, some}
+use Rattle.words.specs.Word.{is_set}
+use Rattle.window.specs.declared.AdaptiveReceiverPacketWindow.{AdaptiveReceiverPacketWindow}
+use Rattle.model.specs.Calls.{@CALLS@}
+use Rattle.model.specs.Roles.{role_of, told_of}
+use Rattle.model.specs.Table.{Pair, TableState, table_step}
+use Rattle.model.specs.Positions.{Positions, step}
+use Rattle.model.specs.Window.{Page, Block, Window, window, no_block, pages_of, blocks_of, live_pairs_of}
+use Rattle.model.specs.Steps.{window_step, demotions_of}
 @USES@
 
 -- names every definition that computes
@@ -100,65 +98,65 @@ abbrev pub words : AdaptiveReceiverPacketWindow → List Block → List PageWord
 words h blocks pages = record { header = h; blocks = blocks; pages = pages }
 
 -- of the n cells from c upwards
-abbrev pub cellsFrom : ℕ → ℕ → Page → List Cell
-cellsFrom zero c p = []
-cellsFrom (suc n) c p = elim (isSet (p .filled) c) [
-  | true ↦ cell c (p .sequences c) (p .values c) ∷ cellsFrom n (suc c) p
-  | false ↦ cellsFrom n (suc c) p
+abbrev pub cells_from : ℕ → ℕ → Page → List Cell
+cells_from zero c p = []
+cells_from (suc n) c p = elim (is_set p.filled c) [
+  | true ↦ cell c (p.sequences c) (p.values c) ∷ cells_from n (suc c) p
+  | false ↦ cells_from n (suc c) p
 ]
 
-abbrev pub isEmpty : Page → Bool
-isEmpty p = eqb (p .kind) 0 && (eqb (p .occupied) 0 && eqb (p .filled) 0)
+abbrev pub is_empty : Page → Bool
+is_empty p = eqb p.kind 0 && (eqb p.occupied 0 && eqb p.filled 0)
 
-abbrev pub pageWordsOf : ℕ → Page → PageWords
-pageWordsOf g p = page g (p .kind) (p .occupied) (p .filled) (cellsFrom 64 0 p)
+abbrev pub page_words_of : ℕ → Page → PageWords
+page_words_of g p = page g p.kind p.occupied p.filled (cells_from 64 0 p)
 
 -- of the n pages from g upwards
-abbrev pub pagesFrom : ℕ → ℕ → Window → List PageWords
-pagesFrom zero g w = []
-pagesFrom (suc n) g w = elim (isEmpty (w .pages g)) [
-  | true ↦ pagesFrom n (suc g) w
-  | false ↦ pageWordsOf g (w .pages g) ∷ pagesFrom n (suc g) w
+abbrev pub pages_from : ℕ → ℕ → Window → List PageWords
+pages_from zero g w = []
+pages_from (suc n) g w = elim (is_empty (w.pages g)) [
+  | true ↦ pages_from n (suc g) w
+  | false ↦ page_words_of g (w.pages g) ∷ pages_from n (suc g) w
 ]
 
-abbrev pub blocksFrom : ℕ → ℕ → Window → List Block
-blocksFrom zero b w = []
-blocksFrom (suc n) b w = w .blocks b ∷ blocksFrom n (suc b) w
+abbrev pub blocks_from : ℕ → ℕ → Window → List Block
+blocks_from zero b w = []
+blocks_from (suc n) b w = w.blocks b ∷ blocks_from n (suc b) w
 
-abbrev pub wordsOf : Window → Words
-wordsOf w = words (w .header) (blocksFrom (blocksOf w) 0 w) (pagesFrom (pagesOf w) 0 w)
+abbrev pub words_of : Window → Words
+words_of w = words w.header (blocks_from (blocks_of w) 0 w) (pages_from (pages_of w) 0 w)
 
 -- ---- a window that has these words; a cell not in use holds its own number, as a sequence that would stand there
 
-abbrev pub sequenceAt : List Cell → ℕ → ℕ
-sequenceAt [] c = c
-sequenceAt (cell k s v ∷ l) c = elim (eqb c k) [ true ↦ s | false ↦ sequenceAt l c ]
+abbrev pub sequence_at : List Cell → ℕ → ℕ
+sequence_at [] c = c
+sequence_at (cell k s v ∷ l) c = elim (eqb c k) [ true ↦ s | false ↦ sequence_at l c ]
 
-abbrev pub valueAt : List Cell → ℕ → ℕ
-valueAt [] c = c
-valueAt (cell k s v ∷ l) c = elim (eqb c k) [ true ↦ v | false ↦ valueAt l c ]
+abbrev pub value_at : List Cell → ℕ → ℕ
+value_at [] c = c
+value_at (cell k s v ∷ l) c = elim (eqb c k) [ true ↦ v | false ↦ value_at l c ]
 
-abbrev pub pageOf : ℕ → ℕ → ℕ → List Cell → Page
-pageOf kind occupied filled cells = record {
+abbrev pub page_of : ℕ → ℕ → ℕ → List Cell → Page
+page_of kind occupied filled cells = record {
   kind = kind;
   occupied = occupied;
   filled = filled;
-  sequences = sequenceAt cells;
-  values = valueAt cells;
+  sequences = sequence_at cells;
+  values = value_at cells;
 }
 
-abbrev pub pageIn : List PageWords → ℕ → Page
-pageIn [] g = pageOf 0 0 0 []
-pageIn (page k kind occupied filled cells ∷ l) g =
-    elim (eqb g k) [ true ↦ pageOf kind occupied filled cells | false ↦ pageIn l g ]
+abbrev pub page_in : List PageWords → ℕ → Page
+page_in [] g = page_of 0 0 0 []
+page_in (page k kind occupied filled cells ∷ l) g =
+    elim (eqb g k) [ true ↦ page_of kind occupied filled cells | false ↦ page_in l g ]
 
-abbrev pub blockIn : List Block → ℕ → Block
-blockIn [] b = noBlock
-blockIn (x ∷ l) zero = x
-blockIn (x ∷ l) (suc b) = blockIn l b
+abbrev pub block_in : List Block → ℕ → Block
+block_in [] b = no_block
+block_in (x ∷ l) zero = x
+block_in (x ∷ l) (suc b) = block_in l b
 
-abbrev pub windowWith : Words → Window
-windowWith u = window (u .header) (pageIn (u .pages)) (blockIn (u .blocks))
+abbrev pub window_with : Words → Window
+window_with u = window u.header (page_in u.pages) (block_in u.blocks)
 
 -- ---- a run: what was asked, and what was said
 
@@ -166,7 +164,7 @@ pub data Entry : Type 0 where
   -- a call, its answer, len, retired_held, promotions, demotions, the values returned
   did : Call → Answer → (len held promotions demotions : ℕ) → List ℕ → Entry
   -- new of window_size, N and demote_at
-  asked : (size n demoteAt : ℕ) → Answer → (len held promotions demotions : ℕ) → Entry
+  asked : (size n demote_at : ℕ) → Answer → (len held promotions demotions : ℕ) → Entry
   -- the pairs that iter gives from 0 until done
   listed : List Pair → (len held promotions demotions : ℕ) → Entry
   -- the words at this place
@@ -184,38 +182,38 @@ printed (ended reads) = ended reads
 printed (released values units) = released values units
 printed (refused k) = refused k
 
-abbrev pub newAnswer : ℕ → Answer
-newAnswer zero = done
-newAnswer (suc k) = refused (suc k)
+abbrev pub new_answer : ℕ → Answer
+new_answer zero = done
+new_answer (suc k) = refused (suc k)
 
 -- with the counts of a window, as they are printed: the demotions of both causes are one count
 abbrev pub counted : Window → ((len held promotions demotions : ℕ) → Entry) → Entry
-counted w f = f (w .header .len) (w .header .«retired_held») (w .header .promotions) (demotionsOf (w .header))
+counted w f = f w.header.len w.header.retired_held w.header.promotions (demotions_of w.header)
 
-abbrev pub didOn : Window → Call → Answer → List ℕ → Entry
-didOn w c a l = did c (printed a) (w .header .len) (w .header .«retired_held») (w .header .promotions) (demotionsOf (w .header)) l
+abbrev pub did_on : Window → Call → Answer → List ℕ → Entry
+did_on w c a l = did c (printed a) w.header.len w.header.retired_held w.header.promotions (demotions_of w.header) l
 
 -- the run once more, with what the window's definitions say
 abbrev pub replay : Window → List Entry → List Entry
 replay w [] = []
-replay w (did c a n h p d l ∷ es) = let e = windowStep w c in didOn (e .after) c (e .answer) (e .returned) ∷ replay (e .after) es
-replay w (asked size n demoteAt a m h p d ∷ es) = counted w (asked size n demoteAt (newAnswer (limits size n demoteAt))) ∷ replay w es
-replay w (listed ps n h p d ∷ es) = counted w (listed (livePairs w)) ∷ replay w es
-replay w (stands u ∷ es) = stands (wordsOf w) ∷ replay w es
+replay w (did c a n h p d l ∷ es) = let e = window_step w c in did_on e.after c e.answer e.returned ∷ replay e.after es
+replay w (asked size n demote_at a m h p d ∷ es) = counted w (asked size n demote_at (new_answer (limits size n demote_at))) ∷ replay w es
+replay w (listed ps n h p d ∷ es) = counted w (listed (live_pairs_of w)) ∷ replay w es
+replay w (stands u ∷ es) = stands (words_of w) ∷ replay w es
 
 -- what the plain table tells of the answers, by its own steps and of those recorded
-abbrev pub tableTells : ℕ → TableState → List Entry → List (Option Answer)
-tableTells size t [] = []
-tableTells size t (did c a n h p d l ∷ es) =
-    let o = tableStep size t c in toldOf (roleOf c) (o .answer) ∷ tableTells size (o .after) es
-tableTells size t (asked size′ n demoteAt a m h p d ∷ es) = tableTells size t es
-tableTells size t (listed ps n h p d ∷ es) = tableTells size t es
-tableTells size t (stands u ∷ es) = tableTells size t es
+abbrev pub table_tells : ℕ → TableState → List Entry → List (Option Answer)
+table_tells size t [] = []
+table_tells size t (did c a n h p d l ∷ es) =
+    let o = table_step size t c in told_of (role_of c) o.answer ∷ table_tells size o.after es
+table_tells size t (asked size' n demote_at a m h p d ∷ es) = table_tells size t es
+table_tells size t (listed ps n h p d ∷ es) = table_tells size t es
+table_tells size t (stands u ∷ es) = table_tells size t es
 
 abbrev pub told : List Entry → List (Option Answer)
 told [] = []
-told (did c a n h p d l ∷ es) = roleOf c .told a ∷ told es
-told (asked size n demoteAt a m h p d ∷ es) = told es
+told (did c a n h p d l ∷ es) = (role_of c).told a ∷ told es
+told (asked size n demote_at a m h p d ∷ es) = told es
 told (listed ps n h p d ∷ es) = told es
 told (stands u ∷ es) = told es
 
@@ -227,25 +225,25 @@ known a (some b) = printed b
 abbrev pub placed : ℕ → Positions → List Entry → List Entry
 placed size w [] = []
 placed size w (did c a n h p d l ∷ es) =
-    let r = step size w c in did c (known a (r .answer)) n h p d (r .returned) ∷ placed size (r .after) es
-placed size w (asked size′ n demoteAt a m h p d ∷ es) = asked size′ n demoteAt a m h p d ∷ placed size w es
+    let r = step size w c in did c (known a r.answer) n h p d r.returned ∷ placed size r.after es
+placed size w (asked size' n demote_at a m h p d ∷ es) = asked size' n demote_at a m h p d ∷ placed size w es
 placed size w (listed ps n h p d ∷ es) = listed ps n h p d ∷ placed size w es
 placed size w (stands u ∷ es) = stands u ∷ placed size w es
 '''
 
 RUNS = '''-- Runs of the line program, by computation on the definitions. Written by tests/runs.py. Assumes nothing.
-use mathlib.Core.Path.{_≡_, refl}
+use mathlib.Core.Path.{◌≡◌, refl}
 use mathlib.Core.Bool.{true}
-use mathlib.Core.List.{[], _∷_, _++_, List}
+use mathlib.Core.List.{[], ◌∷◌, ◌++◌, List}
 use Prim.Native.Nat.{ℕ}
-use Rattle·window.specs.declared.AdaptiveReceiverPacketWindow.{AdaptiveReceiverPacketWindow}
-use Rattle·window.specs.Memory.{Memory}
-use Rattle·model.specs.Calls.{@CALLS@}
-use Rattle·model.specs.Table.{pairOf, freshTable}
-use Rattle·model.specs.Positions.{freshPositions}
-use Rattle·model.specs.Window.{freshWindow}
-use Rattle·model.specs.Steps.{block}
-use Rattle·@CRATE@·specs.specs.Replay.{everything, Entry, did, asked, listed, stands, Words, words, page, cell, windowWith, replay, tableTells, told, placed}
+use Rattle.window.specs.declared.AdaptiveReceiverPacketWindow.{AdaptiveReceiverPacketWindow}
+use Rattle.window.specs.Memory.{Memory}
+use Rattle.model.specs.Calls.{@CALLS@}
+use Rattle.model.specs.Table.{pair_of, fresh_table}
+use Rattle.model.specs.Positions.{fresh_positions}
+use Rattle.model.specs.Window.{fresh_window}
+use Rattle.model.specs.Steps.{block}
+use Rattle.@CRATE@.specs.Replay.{everything, Entry, did, asked, listed, stands, Words, words, page, cell, window_with, replay, table_tells, told, placed}
 '''
 
 
@@ -275,7 +273,7 @@ def entry_text(asked, said):
     if letter == 'l':
         if int(said[1]) != len(more):
             raise SystemExit('a listing with another count of pairs: %s' % said)
-        return 'listed %s %s' % (listed('pairOf %s %s' % tuple(pair.split(':')) for pair in more), counts)
+        return 'listed %s %s' % (listed('pair_of %s %s' % tuple(pair.split(':')) for pair in more), counts)
     call = LETTERS[letter].format(*asked[1:])
     return 'did (%s) %s %s %s' % (call, answer_text(letter, said[1]), counts, listed(more))
 
@@ -286,7 +284,7 @@ def words_text(state):
     numbers, words = header.split(), blocks.split()
     if len(numbers) != len(HEADER):
         raise SystemExit('the oracle prints %d numbers of the header, HEADER has %d' % (len(numbers), len(HEADER)))
-    fields = '; '.join('%s = %s' % ('«%s»' % name if '_' in name else name, number) for name, number in zip(HEADER, numbers))
+    fields = '; '.join('%s = %s' % row for row in zip(HEADER, numbers))
     rows = ['block ' + ' '.join(words[at:at + BLOCK]) for at in range(0, len(words), BLOCK)]
     return 'words (record { %s }) %s %s' % (fields, listed(rows), listed(map(page_text, filter(None, pages.split(';')))))
 
@@ -431,9 +429,9 @@ def put_piece(module, name, run, piece, named):
     if run.states:
         texts.append('stands ' + words_named(module, run, last, named))
     if piece[0] is run.entries[0]:
-        before, window, variable = '(m : Memory) → ', 'freshWindow %s m' % ' '.join(run.numbers), ' m'
+        before, window, variable = '(m : Memory) → ', 'fresh_window %s m' % ' '.join(run.numbers), ' m'
     else:
-        before, window, variable = '', 'windowWith ' + words_named(module, run, first - 1, named), ''
+        before, window, variable = '', 'window_with ' + words_named(module, run, first - 1, named), ''
     module.define(name, 'List Entry', listed(texts))
     module.prove(name + '-by-window', '%s, lines %d to %d' % (run.file, first, last), '%sreplay (%s) %s ≡ %s' % (before, window, name, name), variable)
 
@@ -449,9 +447,9 @@ def words_named(module, run, line, named):
 def put_whole(module, run, whole):
     size = run.numbers[0]
     module.define('whole', 'List Entry', whole)
-    module.prove('whole-by-table', '%s, by the plain table' % run.file, 'tableTells %s freshTable whole ≡ told whole' % size)
+    module.prove('whole-by-table', '%s, by the plain table' % run.file, 'table_tells %s fresh_table whole ≡ told whole' % size)
     if len(run.entries) <= SHORT:
-        module.prove('whole-by-positions', '%s, by positions' % run.file, 'placed %s freshPositions whole ≡ whole' % size)
+        module.prove('whole-by-positions', '%s, by positions' % run.file, 'placed %s fresh_positions whole ≡ whole' % size)
 
 
 # ---- a small repository with these theorems, and the prover's word on it
@@ -462,13 +460,13 @@ def unfoldable(crates):
         for path in sorted((ROOT / 'crates' / crate / 'specs').glob('*.antt')):
             names = re.findall(r'^ *unfoldable (?:abbrev )?pub (?!use )(\S+)', path.read_text(), re.M)
             if names:
-                yield 'Rattle·%s.specs.%s' % (crate, path.stem), names
+                yield 'Rattle.%s.specs.%s' % (crate, path.stem), names
 
 
 def calls_named():
     """The types and constructors of Calls.antt."""
     text = (ROOT / 'crates/model/specs/Calls.antt').read_text()
-    return ', '.join(re.findall(r'^(?:pub data| ) ([\w-]+) : ', text, re.M))
+    return ', '.join(re.findall(r'^(?:pub data| ) (\w+) : ', text, re.M))
 
 
 def replay_text():
@@ -478,38 +476,56 @@ def replay_text():
     return REPLAY.replace('@CALLS@', calls_named()).replace('@USES@', uses).replace('@UNFOLDING@', names)
 
 
-def lay_out(folder, crates):
-    """CRATES as they were proved, and crates of theorems over them: the modules of each, by its name."""
-    rows = [row for row in (ROOT / 'crates.txt').read_text().splitlines() if row.split(':')[0] in CRATES]
-    (folder / 'target/stamp').mkdir(parents=True)
-    for crate in CRATES:
-        shutil.copytree(ROOT / 'crates' / crate, folder / 'crates' / crate)
-        shutil.copytree(ROOT / 'target/rlib' / (crate + '.rlib'), folder / 'target/rlib' / (crate + '.rlib'))
-        shutil.copy(ROOT / 'target/stamp' / crate, folder / 'target/stamp' / crate)
-    for crate, modules in crates.items():
-        texts = {'src/lib.rt': '// Theorems only. See proofs/.', 'specs/Lib.antt': 'pub mod Replay', 'specs/Replay.antt': replay_text()}
-        texts['proofs/Lib.antt'] = '\n'.join('pub mod ' + module.name for module in modules)
-        for module in modules:
-            texts['proofs/%s.antt' % module.name] = '\n'.join(module.lines).replace('@CRATE@', crate)
-        for name, text in texts.items():
-            path = folder / 'crates' / crate / name
-            path.parent.mkdir(parents=True, exist_ok=True)
-            path.write_text(text + '\n')
-        rows.append('%s: %s' % (crate, ' '.join(reversed(CRATES))))
-    (folder / 'crates.txt').write_text('\n'.join(rows) + '\n')
+def needed(crate):
+    """A crate and all that it rests on, in the order of crates.txt: the name of each and its row."""
+    rows = [row for row in (ROOT / 'crates.txt').read_text().splitlines() if re.match(r'\w+( staticlib)?:', row)]
+    wanted = {crate}
+    for row in reversed(rows):
+        name, rest = row.split(':', 1)
+        if name in wanted:
+            wanted |= set(rest.split('#')[0].split())
+    return [(row.split(':')[0], row) for row in rows if row.split(':')[0] in wanted]
 
 
-def prove(crates, last=CRATES[-1], lay_out=lay_out):
-    """Whether all is proved, and what the prover says against it: module, theorem, message. The definitions are those up to crate `last`."""
-    if subprocess.run(['rt', 'check', last], cwd=ROOT, stdout=subprocess.DEVNULL).returncode:
-        raise SystemExit('the crates of the definitions are not proved: rt check %s' % last)
+def lay_out(folder, crate, modules, below, specs):
+    """The crates `below` as they were proved, and over them a crate of theorems: its modules, and its files of definitions."""
+    rows = [row for _, row in needed(below[-1])]
+    for name, _ in needed(below[-1]):
+        for part in ('src', 'specs', 'proofs', 'out/rlib'):
+            if (ROOT / 'crates' / name / part).is_dir():
+                shutil.copytree(ROOT / 'crates' / name / part, folder / 'crates' / name / part)
+    texts = {'src/lib.rt': '// Theorems only. See proofs/.\n#![tactic(auto)]', 'specs/Lib.antt': '\n'.join('pub mod ' + name for name in specs) or '-- None.'}
+    texts['proofs/Lib.antt'] = '\n'.join('pub mod ' + module.name for module in modules)
+    texts |= {'specs/%s.antt' % name: text for name, text in specs.items()}
+    texts |= {'proofs/%s.antt' % module.name: '\n'.join(module.lines).replace('@CRATE@', crate) for module in modules}
+    for name, text in texts.items():
+        path = folder / 'crates' / crate / name
+        path.parent.mkdir(parents=True, exist_ok=True)
+        path.write_text(text + '\n')
+    (folder / 'crates.txt').write_text('\n'.join([*rows, '%s: %s' % (crate, ' '.join(reversed(below)))]) + '\n')
+
+
+def checked(crate, modules, below, specs):
+    """What `rt check` of a crate of theorems says. Each has a folder of its own, since a check keeps others out of the crates below."""
     with tempfile.TemporaryDirectory() as folder:
-        lay_out(Path(folder), crates)
-        done = subprocess.run(['rt', 'check', *crates], cwd=folder, capture_output=True, text=True)
-    errors = re.findall(r'^/\S+/(\w+)\.antt:\d+:\d+: error: (?:`([^`]+)`: )?(.*(?:\n  .*)*)', done.stdout, re.M)
-    if done.returncode and not errors:
-        raise SystemExit(done.stdout[-3000:] + done.stderr)
-    return done.returncode == 0, errors
+        lay_out(Path(folder), crate, modules, below, specs)
+        return subprocess.run(['rt', 'check'], cwd=Path(folder) / 'crates' / crate, capture_output=True, text=True)
+
+
+def prove(crates, below=CRATES, specs=None):
+    """Whether all is proved, and what the prover says against it: module, theorem, message. The crates of theorems have the modules that
+    `crates` names for each, over the crates `below`."""
+    if subprocess.run(['rt', 'lib'], cwd=ROOT / 'crates' / below[-1], stdout=subprocess.DEVNULL).returncode:
+        raise SystemExit('the crates of the definitions are not proved: rt lib in crates/%s' % below[-1])
+    specs = {'Replay': replay_text()} if specs is None else specs
+    errors, well = [], True
+    with ThreadPoolExecutor(len(crates)) as pool:
+        for done in pool.map(lambda row: checked(*row, below, specs), crates.items()):
+            found = re.findall(r'^(?:/?\S+/)?(\w+)\.antt:\d+:\d+: error: (?:`([^`]+)`: )?(.*(?:\n  .*)*)', done.stdout, re.M)
+            if done.returncode and not found:
+                raise SystemExit(done.stdout[-3000:] + done.stderr)
+            well, errors = well and done.returncode == 0, errors + found
+    return well, errors
 
 
 def difference(message):
@@ -575,12 +591,12 @@ FALSE = [
     ('a count', 'new 3 0 1 0', 'new 4 0 1 0', '4', 'window'),
     ('a value returned', '(60 ∷ 70 ∷ [])', '(60 ∷ 71 ∷ [])', '71', 'window positions'),
     ('the order of values returned', '(60 ∷ 70 ∷ [])', '(70 ∷ 60 ∷ [])', '70 ∷ 60 ∷ []', 'window positions'),
-    ('a pair listed', 'pairOf 6 60', 'pairOf 6 61', '61', 'window'),
-    ('a word of the header', '«release_cursor» = 0', '«release_cursor» = 1', '1', 'window'),
+    ('a pair listed', 'pair_of 6 60', 'pair_of 6 61', '61', 'window'),
+    ('a word of the header', 'release_cursor = 0', 'release_cursor = 1', '1', 'window'),
     ('the base', ' base = 5', ' base = 4', '4', 'window'),
     ('the point', 'point = 6', 'point = 5', '5', 'window'),
-    ('the demotions by single removals', '«single_demotions» = 0', '«single_demotions» = 1', '1', 'window'),
-    ('the demotions by ranges', '«range_demotions» = 1', '«range_demotions» = 0', '0', 'window'),
+    ('the demotions by single removals', 'single_demotions = 0', 'single_demotions = 1', '1', 'window'),
+    ('the demotions by ranges', 'range_demotions = 1', 'range_demotions = 0', '0', 'window'),
     ('a word of a block', 'block 1 0 1', 'block 1 0 2', '2', 'window'),
     ('a word of a page', 'page 0 1 32 1', 'page 0 2 32 1', '2', 'window'),
     ('a cell in use', 'cell 0 5 50', 'cell 0 5 51', '51', 'window'),

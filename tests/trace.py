@@ -140,7 +140,7 @@ class Repository:
         self.root = root
         self.words = {}
         crates = open(os.path.join(root, 'crates.txt'), encoding='utf-8').read()
-        self.crates = set(re.findall(r'^(\w+):', crates, re.MULTILINE))
+        self.crates = set(re.findall(r'^(\w+)(?: staticlib)?:', crates, re.MULTILINE))
         # all but this file, which has wrong names for its own test
         self.everywhere = [path for top in SEARCHED for path in self.files(top) if path != 'tests/trace.py']
 
@@ -151,7 +151,7 @@ class Repository:
             return [path]
         found = []
         for folder, folders, names in os.walk(whole):
-            folders[:] = sorted(f for f in folders if f != 'target')
+            folders[:] = sorted(f for f in folders if f not in ('target', 'out'))
             found += [os.path.relpath(os.path.join(folder, name), self.root) for name in sorted(names)]
         return found
 

@@ -208,5 +208,5 @@ def check_traffic():
 
 if __name__ == "__main__":
     if not PROGRAM.exists():
-        subprocess.run(["rt", "check", "windowlines"], cwd=ROOT, check=True, stdout=subprocess.DEVNULL)
+        subprocess.run([ROOT / "program"], check=True, stdout=subprocess.DEVNULL)
     {"recorded": check_recorded, "oracle": check_oracle, "traffic": check_traffic}[sys.argv[1]]()

@@ -13,7 +13,7 @@ use window::AdaptiveReceiverPacketWindow;
 
 // Turns until the input ends or a write fails. A proved loop has to end, and nothing says that the input does: turns are counted down,
 // from a number that no run uses up.
-fn main() {
+fn main(rt: HostRuntime) {
     let mut input = [0u8; 65536];
     let mut line = [0u8; 64];
     let mut sequences = [0u32; 4096];
@@ -40,6 +40,7 @@ fn main() {
     };
     while 0 < run.turns {
         run = turn(
+            rt,
             run,
             &mut input,
             &mut line,
@@ -54,6 +55,7 @@ fn main() {
         );
     }
     finish(
+        rt,
         run,
         &line,
         &mut sequences,

@@ -35,14 +35,14 @@ fn turns_after(turns: u64, failed: bool) -> u64
 }
 
 // The next part of the input, if the one before is used up.
-fn refill(r: Run, input: &mut [u8; 65536]) -> Run
+fn refill(rt: HostRuntime, r: Run, input: &mut [u8; 65536]) -> Run
     ensures { Refilled r input.old result input.new }
 {
     let mut program = r.program;
     if program.from < r.n {
         return r;
     }
-    let n = read_some(input);
+    let n = read_some(rt, input);
     program.from = 0;
     let mut run = Run {
         program,
@@ -59,13 +59,13 @@ fn refill(r: Run, input: &mut [u8; 65536]) -> Run
 }
 
 // The output of `program` written.
-fn put_out(r: Run, program: Program, out: &[u8]) -> Run
+fn put_out(rt: HostRuntime, r: Run, program: Program, out: &[u8]) -> Run
     ensures { Written r program out.now result }
 {
     let mut written = program;
     let notes = program.notes;
-    let told = tell_first(r.told, notes);
-    let failed = !write_part(out, program.at);
+    let told = tell_first(rt, r.told, notes);
+    let failed = !write_part(rt, out, program.at);
     written.at = 0;
     Run {
         program: written,
@@ -116,6 +116,7 @@ fn take_part(
 
 // Bytes are read if the part before is used up, lines of it answered, and the output written.
 pub fn turn(
+    rt: HostRuntime,
     r: Run,
     input: &mut [u8; 65536],
     line: &mut [u8; 64],
@@ -133,7 +134,7 @@ pub fn turn(
     ensures turns_lt_turns { 0 < r.turns → result.turns < r.turns }
     ensures turned { Turned r input line sequences values pages blocks out result }
 {
-    let run = refill(r, input);
+    let run = refill(rt, r, input);
     if run.turns == 0 {
         return run;
     }
@@ -150,11 +151,12 @@ pub fn turn(
         listed_values,
         out,
     );
-    put_out(run, program, out)
+    put_out(rt, run, program, out)
 }
 
 // The end of the input: the answer of a last line without a line feed, unless a write has failed. The program after it.
 pub fn finish(
+    rt: HostRuntime,
     r: Run,
     line: &[u8; 64],
     sequences: &mut [u32; 4096],
@@ -186,6 +188,6 @@ pub fn finish(
         listed_values,
         out,
     );
-    put_out(r, last, out);
+    put_out(rt, r, last, out);
     last
 }
