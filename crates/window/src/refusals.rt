@@ -51,6 +51,7 @@ pub enum Verdict {
 }
 
 // Refusals 1 to 3, in this order.
+#[tactic(auto, unfolding(crate::specs::Refusals::limits))]
 pub fn limits(window_size: u32, n: u32, demote_at: u32) -> Verdict
     ensures { verdict_number result ≡ limits_of window_size n demote_at }
 {
