@@ -1,9 +1,7 @@
 -- The search from a position and then round, as two searches over ranges, over plain variables. Assumes nothing.
-use Rattle.std.proofs.Common.{◌≡◌, ℕ, ◌+◌, ◌-◌, ◌%◌, ◌^◌, ◌<◌, ◌≤◌, Bool, true, false, cond, ltb, List, [], ◌∷◌, sym, refl, ap, ◌∙◌, ⊎_elim, true≢false, mod-eq_of_lt, arith, ltb-true, le-ltb, lt-ltb}
+use Rattle.std.proofs.Common.{◌≡◌, ℕ, ◌+◌, ◌-◌, ◌%◌, ◌^◌, ◌<◌, ◌≤◌, Bool, true, false, cond, ltb, List, sym, refl, ap, ◌∙◌, true≢false, mod-eq_of_lt, arith, ltb-true, le-ltb, lt-ltb}
 use mathlib.Core.Option.{Option, none, some}
 use native.Mathlib.Nat.{sub-zero, mod_self}
-use denote.Enum.Declared.{tag_of}
-use types.Run.{OneOf}
 use Rattle.words.proofs.CaseLaws.{bool}
 use Rattle.words.specs.First.{first_from_of}
 use Rattle.words.proofs.FirstLaws.{first-is, round_up, round-low, round-end}
@@ -14,7 +12,6 @@ use Rattle.model.specs.Calls.{successor_after, first_from, Answer, done, new, re
 use Rattle.model.specs.Table.{Pair, holds, sequence_of, search_from}
 use Rattle.model.specs.Window.{Window, decode, live_at, capacity_of}
 use Rattle.model.specs.Steps.{window_answer}
-use Rattle.block_search.specs.contracts.walk.Found as enum
 use Rattle.block_search.specs.declared.walk.Found.{Found}
 use Rattle.block_search.specs.declared.walk.Found.TheVariants.{At, Nothing, Unsound}
 use Rattle.block_search.specs.Promises.{found_answer_of, first_live, FindsLive}
@@ -43,9 +40,9 @@ none-held none e = refl
 none-held (some x) e = absurd (not-absent (found x.sequence) refl e)
 
 -- past the pattern `Nothing` the walk's answer is another
-pub something : (r : Found) → OneOf (0 ∷ 2 ∷ []) (tag_of enum.the_type r) → found_answer_of r ≡ absent → ⊥
+pub something : (r : Found) → (r ≡ Nothing → ⊥) → found_answer_of r ≡ absent → ⊥
 something (At s) t e = not-absent (found s) refl e
-something Nothing t e = ⊎_elim (λ q. omega arith) (λ q. omega arith) t
+something Nothing t e = t refl
 something Unsound t e = not-absent (refused 7) refl e
 
 -- ---- ranges

@@ -1,11 +1,8 @@
 -- The pair of a sequence that a search found, and stranger's answer, over plain variables. Assumes nothing.
-use Rattle.std.proofs.Common.{◌≡◌, ℕ, ◌<◌, cond, ltb, [], ◌∷◌, sym, refl, ap, ◌∙◌, ⊎_elim, arith, ltb-true, eq-eqb}
+use Rattle.std.proofs.Common.{◌≡◌, ℕ, ◌<◌, cond, ltb, sym, refl, ap, ◌∙◌, ltb-true, eq-eqb}
 use mathlib.Core.Option.{Option, none, some}
-use denote.Enum.Declared.{tag_of}
-use types.Run.{OneOf}
 use Rattle.words.proofs.CaseLaws.{bool}
 use Rattle.window.specs.declared.AdaptiveReceiverPacketWindow.{AdaptiveReceiverPacketWindow}
-use Rattle.window.specs.contracts.answers.Answer as enum
 use Rattle.window.specs.declared.answers.Answer.{Answer}
 use Rattle.window.specs.declared.answers.Answer.TheVariants.{Done, New, Replaced, Absent, Found, Pair, Ended, Released, Refused}
 use Rattle.window.specs.Memory.{Memory, position}
@@ -26,25 +23,18 @@ use Rattle.call_read.specs.Promises.{stranger_position, stranger_in_range, Finds
 use Rattle.call_read.proofs.RoundLaws.{not-absent}
 use Rattle.call_read.proofs.StrangerLaws.{sequence_in, not_found, none-unsound, place_is}
 
--- ---- an answer that is no `Found`, by its tag
+-- ---- an answer that is no `Found`
 
-other_tag : (a : Answer) (n : ℕ) → OneOf (0 ∷ 1 ∷ 2 ∷ 3 ∷ 5 ∷ 6 ∷ 7 ∷ 8 ∷ []) (tag_of enum.the_type a) → answer_of a ≡ found n → ⊥
-other_tag Done n k e = not_found model.done n refl e
-other_tag New n k e = not_found model.new n refl e
-other_tag (Replaced v) n k e = not_found (model.replaced v) n refl e
-other_tag Absent n k e = not_found absent n refl e
-other_tag (Found v) n k e =
-    ⊎_elim (λ q. omega arith)
-    (⊎_elim (λ q. omega arith)
-    (⊎_elim (λ q. omega arith)
-    (⊎_elim (λ q. omega arith)
-    (⊎_elim (λ q. omega arith)
-    (⊎_elim (λ q. omega arith)
-    (⊎_elim (λ q. omega arith) (λ q. omega arith))))))) k
-other_tag (Pair a b c d) n k e = not_found (pair a b c d) n refl e
-other_tag (Ended a) n k e = not_found (ended a) n refl e
-other_tag (Released a b) n k e = not_found (model.released a b) n refl e
-other_tag (Refused why) n k e = not_found (refused (refusal_number_of why)) n refl e
+other_answer : (a : Answer) (n : ℕ) → ((x : ℕ) → a ≡ Found x → ⊥) → answer_of a ≡ found n → ⊥
+other_answer Done n k e = not_found model.done n refl e
+other_answer New n k e = not_found model.new n refl e
+other_answer (Replaced v) n k e = not_found (model.replaced v) n refl e
+other_answer Absent n k e = not_found absent n refl e
+other_answer (Found v) n k e = k v refl
+other_answer (Pair a b c d) n k e = not_found (pair a b c d) n refl e
+other_answer (Ended a) n k e = not_found (ended a) n refl e
+other_answer (Released a b) n k e = not_found (model.released a b) n refl e
+other_answer (Refused why) n k e = not_found (refused (refusal_number_of why)) n refl e
 
 -- ---- the pair, by what get gives for its sequence
 
@@ -58,8 +48,8 @@ module _ (h : AdaptiveReceiverPacketWindow) (m : Memory) (s : ℕ) (a : Answer) 
     gives = λ ok e z q. λ i. pair (sym q i) (ap sequence_in (sym (ap answer_of k) ∙ get-gives ok e z q) i) 0 0;
   }
 
-  pub gives_none : OneOf (0 ∷ 1 ∷ 2 ∷ 3 ∷ 5 ∷ 6 ∷ 7 ∷ 8 ∷ []) (tag_of enum.the_type a) → GivesPair h m s (refused 7)
-  gives_none k = record { gives = λ ok e z q. absurd (other_tag a e.value k (get-gives ok e z q)) }
+  pub gives_none : ((x : ℕ) → a ≡ Found x → ⊥) → GivesPair h m s (refused 7)
+  gives_none k = record { gives = λ ok e z q. absurd (other_answer a e.value k (get-gives ok e z q)) }
 
 -- ---- the answer, by what the search found
 

@@ -1,9 +1,7 @@
 -- The first stranger of a stretch of positions, as a loop over the live values of the stretch, over plain variables. Assumes nothing.
-use Rattle.std.proofs.Common.{◌≡◌, ℕ, ◌+◌, ◌-◌, ◌<◌, ◌≤◌, Bool, true, false, cond, ltb, ◌⊎◌, List, [], ◌∷◌, sym, refl, ap, ◌∙◌, ⊎_elim, true≢false, arith, ltb-false, ltb-true, le-ltb, lt-ltb}
+use Rattle.std.proofs.Common.{◌≡◌, ℕ, ◌+◌, ◌-◌, ◌<◌, ◌≤◌, Bool, true, false, cond, ltb, ◌⊎◌, List, sym, refl, ap, ◌∙◌, ⊎_elim, true≢false, arith, ltb-false, ltb-true, le-ltb, lt-ltb}
 use mathlib.Core.Option.{Option, none, some}
 use native.Mathlib.Decide.{ℕ_discrete, dec_lt}
-use denote.Enum.Declared.{tag_of}
-use types.Run.{OneOf}
 use Rattle.words.proofs.CaseLaws.{bool}
 use Rattle.words.specs.First.{first_from_of}
 use Rattle.words.proofs.FirstLaws.{first-is, first-eq}
@@ -14,7 +12,6 @@ use Rattle.model.specs.Table.{Pair, pair_of, holds, sequence_of, is_stranger_of}
 use Rattle.model.specs.Window.{Window, decode, live_at}
 use Rattle.model.specs.Sound.{Sound}
 use Rattle.page_base.proofs.LiveLaws.{InPlace, live-in-place}
-use Rattle.block_search.specs.contracts.walk.Found as enum
 use Rattle.block_search.specs.declared.walk.Found.{Found}
 use Rattle.block_search.specs.declared.walk.Found.TheVariants.{At, Nothing, Unsound}
 use Rattle.block_search.specs.Promises.{first_live, FindsLive}
@@ -176,9 +173,9 @@ module _ (h : AdaptiveReceiverPacketWindow) (ss pages blocks : List ℕ) (first 
     }
 
     -- the walk found no live value
-    pub finds-no-live : from ≤ end → (r : Found) → OneOf (1 ∷ 2 ∷ []) (tag_of enum.the_type r) → FindsLive h ss pages blocks from end r
+    pub finds-no-live : from ≤ end → (r : Found) → ((s : ℕ) → r ≡ At s → ⊥) → FindsLive h ss pages blocks from end r
         → FindsStranger h ss pages blocks start end first count r
-    finds-no-live l (At s) k f = ⊎_elim (λ e. absurd (omega arith)) (λ e. absurd (omega arith)) k
+    finds-no-live l (At s) k f = absurd (k s refl)
     finds-no-live l Nothing k f = record {
       gives = λ vs ok.
           let v = decode h (memory ss vs pages blocks) in
