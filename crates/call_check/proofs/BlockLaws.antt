@@ -4,7 +4,7 @@ use mathlib.Core.Bool.{Bool, true, false, not}
 use mathlib.Core.List.{List}
 use Prim.Native.Nat.{ℕ, ◌*◌, ◌^◌, ◌<◌}
 use lib.Dec.{eqb}
-use borrow.Author.Tests.{not-true, not-false, eqb-true, eqb-false}
+use borrow.Author.Tests.{eqb-true, eqb-false}
 use Rattle.window.specs.declared.AdaptiveReceiverPacketWindow.{AdaptiveReceiverPacketWindow}
 use Rattle.window.specs.Memory.{memory, page_count_of, block_count_of}
 use Rattle.model.specs.Demand3.{one}
@@ -32,9 +32,9 @@ module _ (h : AdaptiveReceiverPacketWindow) (pages blocks : List ℕ) (b : ℕ) 
     summary-of s = s.summary ∙ ap (λ (y : Block). one (not (eqb y.nonempty 0))) block-is
 
   -- t is what the summary's test gave
-  pub summary-differs : (t : Bool) → Decides (BitMatches h.nonempty_summary b x.nonempty) t → not t ≡ true
+  pub summary-differs : (t : Bool) → Decides (BitMatches h.nonempty_summary b x.nonempty) t → t ≡ false
       → DecidesBlock h pages blocks b false
-  summary-differs t d e = record { is = λ ss vs. decides-no (λ s. d.fails (not-true t e) (summary-of ss vs s)) }
+  summary-differs t d e = record { is = λ ss vs. decides-no (λ s. d.fails e (summary-of ss vs s)) }
 
   -- n is the number of the block's pages
   module _ (n : ℕ) (en : n ≡ pages_in_block_of (page_count_of h.window_size) b) where
@@ -50,16 +50,16 @@ module _ (h : AdaptiveReceiverPacketWindow) (pages blocks : List ℕ) (b : ℕ) 
       unfolding decode
       few-retired s = rw en (subst (λ (y : Block). y.retired < 2 ^ most) (block-is ss vs) s.retired_bits)
 
-    pub nonempty-past : (t : Bool) → Decides (x.nonempty < 2 ^ n) t → not t ≡ true → DecidesBlock h pages blocks b false
-    nonempty-past t d e = record { is = λ ss vs. decides-no (λ s. d.fails (not-true t e) (few-nonempty ss vs s)) }
+    pub nonempty-past : (t : Bool) → Decides (x.nonempty < 2 ^ n) t → t ≡ false → DecidesBlock h pages blocks b false
+    nonempty-past t d e = record { is = λ ss vs. decides-no (λ s. d.fails e (few-nonempty ss vs s)) }
 
-    pub retired-past : (t : Bool) → Decides (x.retired < 2 ^ n) t → not t ≡ true → DecidesBlock h pages blocks b false
-    retired-past t d e = record { is = λ ss vs. decides-no (λ s. d.fails (not-true t e) (few-retired ss vs s)) }
+    pub retired-past : (t : Bool) → Decides (x.retired < 2 ^ n) t → t ≡ false → DecidesBlock h pages blocks b false
+    retired-past t d e = record { is = λ ss vs. decides-no (λ s. d.fails e (few-retired ss vs s)) }
 
     -- live is what was counted
     module _ (live : ℕ) (el : live ≡ values_where_of pages blocks h.retired_blocks 0 (64 * b) n) where
-      pub block-decided : (t u r : Bool) → Decides (BitMatches h.nonempty_summary b x.nonempty) t → not t ≡ false
-          → Decides (x.nonempty < 2 ^ n) u → not u ≡ false → Decides (x.retired < 2 ^ n) r → not r ≡ false
+      pub block-decided : (t u r : Bool) → Decides (BitMatches h.nonempty_summary b x.nonempty) t → t ≡ true
+          → Decides (x.nonempty < 2 ^ n) u → u ≡ true → Decides (x.retired < 2 ^ n) r → r ≡ true
           → DecidesBlock h pages blocks b (eqb x.live live)
       unfolding decode
       block-decided t u r dt et du eu dr er = record {
@@ -68,10 +68,10 @@ module _ (h : AdaptiveReceiverPacketWindow) (pages blocks : List ℕ) (b : ℕ) 
             let sum = el ∙ ap (values_where_of pages blocks h.retired_blocks 0 (64 * b)) en ∙ block-sum h m b in
             record {
               holds = λ e. record {
-                summary = dt.holds (not-false t et) ∙ ap (λ (y : Block). one (not (eqb y.nonempty 0))) (sym (block-is ss vs));
+                summary = dt.holds et ∙ ap (λ (y : Block). one (not (eqb y.nonempty 0))) (sym (block-is ss vs));
                 live = ap (λ (y : Block). y.live) (block-is ss vs) ∙ eqb-true x.live live e ∙ sum;
-                nonempty_bits = subst (λ (y : Block). y.nonempty < 2 ^ most) (sym (block-is ss vs)) (rw (← en) (du.holds (not-false u eu)));
-                retired_bits = subst (λ (y : Block). y.retired < 2 ^ most) (sym (block-is ss vs)) (rw (← en) (dr.holds (not-false r er)));
+                nonempty_bits = subst (λ (y : Block). y.nonempty < 2 ^ most) (sym (block-is ss vs)) (rw (← en) (du.holds eu));
+                retired_bits = subst (λ (y : Block). y.retired < 2 ^ most) (sym (block-is ss vs)) (rw (← en) (dr.holds er));
               };
               fails = λ e s. eqb-false x.live live e (ap (λ (y : Block). y.live) (sym (block-is ss vs)) ∙ s.live ∙ sym sum);
             };

@@ -1,11 +1,11 @@
 -- The header of a window read from the lent lists. Assumes nothing.
 use mathlib.Core.Path.{◌≡◌, sym, ap, ◌∙◌}
-use mathlib.Core.Bool.{Bool, true, false, not}
+use mathlib.Core.Bool.{Bool, true, false}
 use mathlib.Core.List.{List}
 use Prim.Native.Nat.{ℕ, ◌^◌, ◌≤◌, ◌<◌}
 use native.Mathlib.Omega.{arith}
 use lib.Dec.{eqb}
-use borrow.Author.Tests.{not-true, not-false, eqb-true, eqb-false}
+use borrow.Author.Tests.{eqb-true, eqb-false}
 use Rattle.window.specs.declared.AdaptiveReceiverPacketWindow.{AdaptiveReceiverPacketWindow}
 use Rattle.window.specs.Memory.{memory, page_count_of, block_count_of}
 use Rattle.model.specs.Window.{decode}
@@ -23,20 +23,20 @@ module _ (h : AdaptiveReceiverPacketWindow) where
 
   -- n is the number of blocks
   module _ (n : ℕ) (en : n ≡ block_count_of h.window_size) where
-    pub summary-past : (t : Bool) → Decides (h.nonempty_summary < 2 ^ n) t → not t ≡ true → Decides (HeaderWords h) false
-    summary-past t d e = decides-no (λ q. d.fails (not-true t e) (rw en q.summary_bits))
+    pub summary-past : (t : Bool) → Decides (h.nonempty_summary < 2 ^ n) t → t ≡ false → Decides (HeaderWords h) false
+    summary-past t d e = decides-no (λ q. d.fails e (rw en q.summary_bits))
 
-    pub marks-past : (t : Bool) → Decides (h.retired_blocks < 2 ^ n) t → not t ≡ true → Decides (HeaderWords h) false
-    marks-past t d e = decides-no (λ q. d.fails (not-true t e) (rw en q.retired_block_bits))
+    pub marks-past : (t : Bool) → Decides (h.retired_blocks < 2 ^ n) t → t ≡ false → Decides (HeaderWords h) false
+    marks-past t d e = decides-no (λ q. d.fails e (rw en q.retired_block_bits))
 
     module _ (p : ℕ) (ep : p ≡ page_count_of h.window_size) (inside : h.release_cursor < p)
-        (t : Bool) (dt : Decides (h.nonempty_summary < 2 ^ n) t) (et : not t ≡ false)
-        (u : Bool) (du : Decides (h.retired_blocks < 2 ^ n) u) (eu : not u ≡ false) where
+        (t : Bool) (dt : Decides (h.nonempty_summary < 2 ^ n) t) (et : t ≡ true)
+        (u : Bool) (du : Decides (h.retired_blocks < 2 ^ n) u) (eu : u ≡ true) where
       words_are : (h.retired_held ≡ 0 → h.retired_blocks ≡ 0) → HeaderWords h
       words_are none = record {
         cursor = omega (arith, ep);
-        summary_bits = rw (← en) (dt.holds (not-false t et));
-        retired_block_bits = rw (← en) (du.holds (not-false u eu));
+        summary_bits = rw (← en) (dt.holds et);
+        retired_block_bits = rw (← en) (du.holds eu);
         no_block_mark = none;
       }
 
@@ -99,13 +99,13 @@ module _ (h : AdaptiveReceiverPacketWindow) (pages blocks : List ℕ) (t : Bool)
         no_block_mark = w.no_block_mark;
       }
 
-  pub words-fail : not t ≡ true → DecidesHeader h pages blocks false
-  words-fail e = record { is = λ ss vs. decides-no (λ s. words.fails (not-true t e) (words_of ss vs s)) }
+  pub words-fail : t ≡ false → DecidesHeader h pages blocks false
+  words-fail e = record { is = λ ss vs. decides-no (λ s. words.fails e (words_of ss vs s)) }
 
-  pub header-decided : not t ≡ false → (r : Bool) → Decides (HeaderCounts h pages blocks) r → DecidesHeader h pages blocks r
+  pub header-decided : t ≡ true → (r : Bool) → Decides (HeaderCounts h pages blocks) r → DecidesHeader h pages blocks r
   header-decided e r d = record {
     is = λ ss vs. record {
-      holds = λ b. whole ss vs (words.holds (not-false t e)) (d.holds b);
+      holds = λ b. whole ss vs (words.holds e) (d.holds b);
       fails = λ b s. d.fails b (counts_of ss vs s);
     };
   }

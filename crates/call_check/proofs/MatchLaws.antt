@@ -4,7 +4,7 @@ use mathlib.Core.Bool.{Bool, true, false, not, true≢false}
 use Prim.Native.Nat.{ℕ, ◌/◌, ◌%◌}
 use native.Mathlib.Omega.{arith}
 use lib.Dec.{eqb, ltb}
-use borrow.Author.Tests.{eq-eqb, ne_eqb, ltb-true, ltb-false, not-true, not-false}
+use borrow.Author.Tests.{eq-eqb, ne_eqb, ltb-true, ltb-false}
 use Rattle.words.specs.Word.{bit_at, count}
 use Rattle.window.specs.declared.AdaptiveReceiverPacketWindow.{AdaptiveReceiverPacketWindow}
 use Rattle.page_base.specs.declared.PageWords.{PageWords}
@@ -36,8 +36,8 @@ module _ (demote_at : ℕ) (w : PageWords) (retired : ℕ) where
 -- ---- a page in its block
 
 module _ (h : AdaptiveReceiverPacketWindow) (w : PageWords) (x : BlockWords) (g : ℕ) where
-  pub nonempty-differs : (t : Bool) → Decides (BitMatches x.nonempty (g % 64) w.occupied) t → not t ≡ true → Decides (PageMatches h w x g) false
-  nonempty-differs t d e = decides-no (λ p. d.fails (not-true t e) p.nonempty)
+  pub nonempty-differs : (t : Bool) → Decides (BitMatches x.nonempty (g % 64) w.occupied) t → t ≡ false → Decides (PageMatches h w x g) false
+  nonempty-differs t d e = decides-no (λ p. d.fails e p.nonempty)
 
   pub empty-marked : w.occupied ≡ 0 → (b : ℕ) → b ≡ bit_at x.retired (g % 64) → b ≡ 1 → Decides (PageMatches h w x g) false
   empty-marked z b e m = decides-no (λ p. true≢false (sym (p.marks (sym e ∙ m)) ∙ ap not (eq-eqb w.occupied 0 z)))
@@ -49,7 +49,7 @@ module _ (h : AdaptiveReceiverPacketWindow) (w : PageWords) (x : BlockWords) (g 
   pub held : (w.occupied ≡ 0 → ⊥) → bit_at x.retired (g % 64) ≡ 1 → not (eqb w.occupied 0) ≡ true
   held n m = ap not (ne_eqb w.occupied 0 n)
 
-  pub matches : (t : Bool) → Decides (BitMatches x.nonempty (g % 64) w.occupied) t → not t ≡ false
+  pub matches : (t : Bool) → Decides (BitMatches x.nonempty (g % 64) w.occupied) t → t ≡ true
       → (bit_at x.retired (g % 64) ≡ 1 → not (eqb w.occupied 0) ≡ true)
       → (p d : ℕ) → p ≡ retired_pages_of h.retired_blocks x.retired (g / 64) → d ≡ bit_at p (g % 64)
       → (r : Bool) → Decides (DenseEnough h.demote_at w d) r → Decides (PageMatches h w x g) r
@@ -58,6 +58,6 @@ module _ (h : AdaptiveReceiverPacketWindow) (w : PageWords) (x : BlockWords) (g 
       let z : d ≡ page_retired_of h.retired_blocks x g = f ∙ ap (λ (y : ℕ). bit_at y (g % 64)) k in
       let c = rw z at dense in
       record {
-        holds = λ b. record { dense = c.holds b; nonempty = noted.holds (not-false t e); marks = marks };
+        holds = λ b. record { dense = c.holds b; nonempty = noted.holds e; marks = marks };
         fails = λ b q. c.fails b q.dense;
       }

@@ -1,11 +1,10 @@
 -- One page of a window read from the lent lists, by its words, its cells and its block's words. Assumes nothing.
 use mathlib.Core.Path.{◌≡◌, sym, ap, ◌∙◌, subst}
-use mathlib.Core.Bool.{Bool, true, false, not}
+use mathlib.Core.Bool.{Bool, true, false}
 use mathlib.Core.List.{List}
 use Prim.Native.Nat.{ℕ, ◌/◌, ◌%◌, ◌<◌}
 use native.Mathlib.Omega.{arith}
 use lib.Dec.{eqb}
-use borrow.Author.Tests.{not-true, not-false}
 use Rattle.words.specs.Word.{bit_at, count}
 use Rattle.window.specs.declared.AdaptiveReceiverPacketWindow.{AdaptiveReceiverPacketWindow}
 use Rattle.window.specs.Memory.{memory, capacity, page_count_of}
@@ -70,17 +69,17 @@ module _ (h : AdaptiveReceiverPacketWindow) (ss pages blocks : List ℕ) (g : �
 
   -- t is what the page's match gave
   module _ (t : Bool) (matched : Decides (PageMatches h w x g) t) where
-    pub page-unmatched : not t ≡ true → DecidesAt h ss pages blocks g false
-    page-unmatched e = record { is = λ vs. decides-no (λ s. matched.fails (not-true t e) (matching vs s)) }
+    pub page-unmatched : t ≡ false → DecidesAt h ss pages blocks g false
+    page-unmatched e = record { is = λ vs. decides-no (λ s. matched.fails e (matching vs s)) }
 
-    pub page-decided : not t ≡ false → (cs : List ℕ) → cs ≡ part_of g ss → (n : ℕ) → n ≡ h.n → (r : Bool) → DecidesPage n h.window_size g w cs r
+    pub page-decided : t ≡ true → (cs : List ℕ) → cs ≡ part_of g ss → (n : ℕ) → n ≡ h.n → (r : Bool) → DecidesPage n h.window_size g w cs r
         → DecidesAt h ss pages blocks g r
     page-decided e cs ec n en r d = record {
       is = λ vs.
           let q : Decides (SoundPage h.n (capacity h.window_size) g (page w (part_of g ss) (part_of g vs))) r
           = rw (← ec, ← en) (d.is (part_of g vs)) in
           record {
-            holds = λ b. made vs (matched.holds (not-false t e)) (q.holds b);
+            holds = λ b. made vs (matched.holds e) (q.holds b);
             fails = λ b s. q.fails b (by_itself vs s);
           };
     }

@@ -1,9 +1,8 @@
 -- The whole state, and what check answers, over plain variables. Assumes nothing.
 use mathlib.Core.Path.{◌≡◌, refl}
-use mathlib.Core.Bool.{Bool, true, false, not}
+use mathlib.Core.Bool.{Bool, true, false}
 use mathlib.Core.List.{List}
 use Prim.Native.Nat.{ℕ, ◌^◌, ◌<◌}
-use borrow.Author.Tests.{not-true, not-false}
 use Rattle.window.specs.declared.AdaptiveReceiverPacketWindow.{AdaptiveReceiverPacketWindow}
 use Rattle.window.specs.declared.answers.Answer.TheVariants.{Done, Refused}
 use Rattle.window.specs.declared.refusals.Refusal.TheVariants.{Unsound}
@@ -24,23 +23,23 @@ module _ (h : AdaptiveReceiverPacketWindow) (ss pages blocks : List ℕ) (within
   abbrev v : List ℕ → Window
   v vs = decode h (memory ss vs pages blocks)
 
-  pub header-unsound : not t ≡ true → DecidesSound h ss pages blocks false
+  pub header-unsound : t ≡ false → DecidesSound h ss pages blocks false
   unfolding decode
   header-unsound e =
-      record { is = λ vs. decides-no (λ ok. (header.is ss vs).fails (not-true t e) (sound-header (v vs) ok summary-fits marks_fit)) }
+      record { is = λ vs. decides-no (λ ok. (header.is ss vs).fails e (sound-header (v vs) ok summary-fits marks_fit)) }
 
   module _ (u : Bool) (each : DecidesBlocks h pages blocks u) where
-    pub blocks-unsound : not u ≡ true → DecidesSound h ss pages blocks false
+    pub blocks-unsound : u ≡ false → DecidesSound h ss pages blocks false
     unfolding decode
-    blocks-unsound e = record { is = λ vs. decides-no (λ ok. (each.is ss vs).fails (not-true u e) (sound-block (v vs) ok)) }
+    blocks-unsound e = record { is = λ vs. decides-no (λ ok. (each.is ss vs).fails e (sound-block (v vs) ok)) }
 
-    pub sound-decided : not t ≡ false → not u ≡ false → (r : Bool) → DecidesPages h ss pages blocks r → DecidesSound h ss pages blocks r
+    pub sound-decided : t ≡ true → u ≡ true → (r : Bool) → DecidesPages h ss pages blocks r → DecidesSound h ss pages blocks r
     unfolding decode
     sound-decided et eu r d = record {
       is = λ vs. record {
         holds = λ b.
             clauses-sound h (memory ss vs pages blocks) within
-            ((d.is vs).holds b) ((each.is ss vs).holds (not-false u eu)) ((header.is ss vs).holds (not-false t et));
+            ((d.is vs).holds b) ((each.is ss vs).holds eu) ((header.is ss vs).holds et);
         fails = λ b ok. (d.is vs).fails b (sound-at (v vs) ok);
       };
     }
@@ -48,19 +47,19 @@ module _ (h : AdaptiveReceiverPacketWindow) (ss pages blocks : List ℕ) (within
 -- ---- the answer, by what the test of the state gave
 
 module _ (w : AdaptiveReceiverPacketWindow) (ss vs pages blocks : List ℕ) (d : Bool) (decided : DecidesSound w ss pages blocks d) where
-  pub unsound-answer : not d ≡ true → Checks (state_of w (memory ss vs pages blocks)) (Refused Unsound)
-  unsound-answer t = record { sound = λ ok. absurd ((decided.is vs).fails (not-true d t) ok.sound); unsound = λ n. refl }
+  pub unsound-answer : d ≡ false → Checks (state_of w (memory ss vs pages blocks)) (Refused Unsound)
+  unsound-answer t = record { sound = λ ok. absurd ((decided.is vs).fails t ok.sound); unsound = λ n. refl }
 
   -- where that is sound, by what the test of base and point gave
-  module _ (t : not d ≡ false) (k : Bool) (current : DecidesCurrent w ss pages blocks k) where
-    pub current-answer : not k ≡ false → Checks (state_of w (memory ss vs pages blocks)) Done
+  module _ (t : d ≡ true) (k : Bool) (current : DecidesCurrent w ss pages blocks k) where
+    pub current-answer : k ≡ true → Checks (state_of w (memory ss vs pages blocks)) Done
     unfolding decode
     current-answer e =
-        let ok = (decided.is vs).holds (not-false d t) in
-        let p = (current.is vs ok).holds (not-false k e) in
+        let ok = (decided.is vs).holds t in
+        let p = (current.is vs ok).holds e in
         record { sound = λ s. refl; unsound = λ n. absurd (n (record { sound = ok; base = p.0; point = p.1 })) }
 
-    pub late-answer : not k ≡ true → Checks (state_of w (memory ss vs pages blocks)) (Refused Unsound)
+    pub late-answer : k ≡ false → Checks (state_of w (memory ss vs pages blocks)) (Refused Unsound)
     unfolding decode
     late-answer e =
-        record { sound = λ s. absurd ((current.is vs s.sound).fails (not-true k e) (s.base, s.point)); unsound = λ n. refl }
+        record { sound = λ s. absurd ((current.is vs s.sound).fails e (s.base, s.point)); unsound = λ n. refl }

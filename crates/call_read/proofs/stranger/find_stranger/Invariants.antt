@@ -1,4 +1,4 @@
--- No stranger stands from `start` up to `from` (Searched); each way out is one law of Strangers. Assumes nothing.
+-- No stranger stands from `start` up to `from` (Searched); each way out is one law of StrangerLaws. Assumes nothing.
 use Rattle.std.proofs.Common.{◌-◌}
 use Rattle.call_read.proofs.StrangerLaws.{Searched}
 use Rattle.call_read.proofs.stranger.find_stranger.Given as goal
