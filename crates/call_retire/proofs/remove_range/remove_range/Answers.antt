@@ -1,0 +1,56 @@
+-- Refused as admits says, or else what remove_positions does at the positions of the range, and then the point. Assumes nothing.
+use Rattle.std.proofs.Common.{ℕ, ◌≤◌, leb, length, refl, subst, arith}
+use Rattle.window.specs.Memory.{memory, position}
+use Rattle.window.proofs.MemoryLaws.{size-le, position-lt}
+use Rattle.window.specs.Lent.{ListsFit}
+use Rattle.model.specs.Calls.{remove_range}
+use Rattle.model.specs.Table.{range_count_of}
+use Rattle.model.specs.Window.{Window}
+use Rattle.model.specs.Steps.{known_by, range_step}
+use Rattle.call_base.specs.Answers.{state_of, left_of}
+use Rattle.call_base.specs.Promises.{Fills}
+use Rattle.call_base.proofs.MeetsLaws.{refusal-meets, admitted-fits, admitted-places, admitted-arguments, filled-meets}
+use Rattle.model.proofs.KeepLaws.{count-some}
+use Rattle.call_base.proofs.RangeLaws.{count-taken}
+use Rattle.call_retire.proofs.DoesLaws.{range-does}
+use Rattle.call_retire.proofs.AcknowledgeLaws.{range-acts}
+use Rattle.call_retire.proofs.remove_range.remove_range.Goals as goal
+
+pub returns-in-Refuse : goal.returns-in-Refuse
+returns-in-Refuse c =
+    let s = c.args in
+    refusal-meets (remove_range s.first s.last (leb 384 (length s.returned.now))) ((let s = c.args in state_of s.w (memory s.sequences.now s.values.now s.pages.now s.blocks.now))) (length s.returned.now) refl c.admits-verdict.result c.admits-verdict.ensures s.returned.now _ _ c.in-Refuse.is c.refuse.ensures
+
+pub position-start-requires : goal.position-start-requires
+position-start-requires c =
+    let fit : let s = c.args in ListsFit s.w s.sequences.now s.values.now s.pages.now s.blocks.now = let s = c.args in admitted-fits (remove_range s.first s.last (leb 384 (length s.returned.now))) ((let s = c.args in state_of s.w (memory s.sequences.now s.values.now s.pages.now s.blocks.now))) (length s.returned.now) refl c.admits-verdict.result c.admits-verdict.ensures c.in_default.in_default-own.keys2 in
+    (fit).within.size_high
+
+pub remove_positions-step-requires : goal.remove_positions-step-requires
+remove_positions-step-requires c =
+    let fit : let s = c.args in ListsFit s.w s.sequences.now s.values.now s.pages.now s.blocks.now = let s = c.args in admitted-fits (remove_range s.first s.last (leb 384 (length s.returned.now))) ((let s = c.args in state_of s.w (memory s.sequences.now s.values.now s.pages.now s.blocks.now))) (length s.returned.now) refl c.admits-verdict.result c.admits-verdict.ensures c.in_default.in_default-own.keys2 in
+    let few : let s = c.args in range_count_of s.first s.last ≤ s.w.window_size = let s = c.args in count-taken (known_by s.w) s.first s.last (admitted-arguments (remove_range s.first s.last (leb 384 (length s.returned.now))) ((let s = c.args in state_of s.w (memory s.sequences.now s.values.now s.pages.now s.blocks.now))) (length s.returned.now) refl c.admits-verdict.result c.admits-verdict.ensures c.in_default.in_default-own.keys2) in
+    let long : 384 ≤ length c.args.returned.now = let s = c.args in admitted-places (remove_range s.first s.last (leb 384 (length s.returned.now))) ((let s = c.args in state_of s.w (memory s.sequences.now s.values.now s.pages.now s.blocks.now))) (length s.returned.now) refl c.admits-verdict.result c.admits-verdict.ensures c.in_default.in_default-own.keys2 in
+    let s = c.args in
+    let f = fit in
+    let size = s.w.window_size in
+    record { lists_fit = f; start_bound = (omega (arith, c.position-start.ensures, position-lt size s.first), omega (arith, c.range_count-count.ensures, count-some s.first s.last), omega (arith, c.range_count-count.ensures, few, size-le size f.within.size_high), long) }
+
+pub keep_point-requires : goal.keep_point-requires
+keep_point-requires c =
+    let fit : let s = c.args in ListsFit s.w s.sequences.now s.values.now s.pages.now s.blocks.now = let s = c.args in admitted-fits (remove_range s.first s.last (leb 384 (length s.returned.now))) ((let s = c.args in state_of s.w (memory s.sequences.now s.values.now s.pages.now s.blocks.now))) (length s.returned.now) refl c.admits-verdict.result c.admits-verdict.ensures c.in_default.in_default-own.keys2 in
+    let few : let s = c.args in range_count_of s.first s.last ≤ s.w.window_size = let s = c.args in count-taken (known_by s.w) s.first s.last (admitted-arguments (remove_range s.first s.last (leb 384 (length s.returned.now))) ((let s = c.args in state_of s.w (memory s.sequences.now s.values.now s.pages.now s.blocks.now))) (length s.returned.now) refl c.admits-verdict.result c.admits-verdict.ensures c.in_default.in_default-own.keys2) in
+    let f = fit in
+    (f.within.size_high, omega (arith, c.range_count-count.ensures, few, size-le c.args.w.window_size f.within.size_high))
+
+pub returns : goal.returns
+returns c =
+    let s = c.args in
+    let t = c.remove_positions-step in
+    let left = left_of t.result (memory t.new.sequences t.new.values t.new.pages t.new.blocks) t.new.returned in
+    let fills = subst (λ (n : ℕ). Fills (λ (w : Window). range_step w (position s.w.window_size s.first) n) ((let s = c.args in state_of s.w (memory s.sequences.now s.values.now s.pages.now s.blocks.now))) s.returned.now left) c.range_count-count.ensures
+    (subst (λ (p : ℕ). Fills (λ (w : Window). range_step w p c.range_count-count.result) ((let s = c.args in state_of s.w (memory s.sequences.now s.values.now s.pages.now s.blocks.now))) s.returned.now left) c.position-start.ensures t.ensures) in
+    filled-meets (remove_range s.first s.last (leb 384 (length s.returned.now))) ((let s = c.args in state_of s.w (memory s.sequences.now s.values.now s.pages.now s.blocks.now))) (length s.returned.now) refl c.admits-verdict.result c.admits-verdict.ensures c.in_default.in_default-own.keys2 s.returned.now left _ refl refl
+    _ (range-does s.w (memory s.sequences.now s.values.now s.pages.now s.blocks.now) s.first s.last (leb 384 (length s.returned.now)))
+    fills (λ a z. range-acts s.first s.last (leb 384 (length s.returned.now)) s.w ((let s = c.args in state_of s.w (memory s.sequences.now s.values.now s.pages.now s.blocks.now))).memory s.returned.now t.result _ _ a z fills.taken
+    c.range_count-count.result c.range_count-count.ensures c.keep_point.result c.keep_point.ensures)

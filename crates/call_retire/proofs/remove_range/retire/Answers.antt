@@ -1,0 +1,16 @@
+use Rattle.std.proofs.Common.{◌<◌, arith}
+use Rattle.window.specs.Memory.{memory}
+use Rattle.window.proofs.MemoryLaws.{capacity-le}
+use Rattle.call_retire.proofs.RemoveRangeLaws.{ready-performs}
+use Rattle.call_retire.proofs.remove_range.retire.Goals as goal
+
+pub ready-window-requires : goal.ready-window-requires
+ready-window-requires c =
+    let small : c.args.start < 65536 = omega (arith, capacity-le c.args.w.window_size, c.requires.start_bound.0) in
+    small
+
+pub returns : goal.returns
+returns c =
+    let s = c.args in
+    let t = c.retire_range-retired in
+    ready-performs s.w (memory s.sequences.now s.values.now s.pages.now s.blocks.now) s.returned.now s.start s.count t.result _ _ _ t.ensures c.ready-window.ensures
