@@ -19,7 +19,7 @@ use Rattle.window.specs.Memory.{Memory}
 use Rattle.window.specs.Refusals.{refusal_number_of, verdict_number, is_wire_number_of}
 use Rattle.window.proofs.RefusalLaws.{refuses}
 use Rattle.window.specs.contracts.refusals.Verdict as verdict
-use Rattle.model.specs.Calls.{Query, write_losses, read_losses, ask, refused}
+use Rattle.model.specs.Calls.{Query, write_losses, read_losses, ask}
 use Rattle.model.specs.Roles.{range_argument}
 use Rattle.model.specs.Table.{range_count_of, first as first_of}
 use Rattle.model.specs.Losses.{is_loss_list_of}

@@ -3,14 +3,10 @@
 use mathlib.Core.Path.{◌≡◌, refl, sym, ap, ◌∙◌}
 use mathlib.Core.Bool.{Bool, true, false, cond, ◌&&◌, true≢false}
 use mathlib.Core.Option.{Option, none, some}
-use mathlib.Core.Logic.{⊎_elim}
-use mathlib.Core.List.{[], ◌∷◌}
 use Prim.Native.Nat.{ℕ, ◌+◌, ◌-◌, ◌^◌, ◌≤◌, ◌<◌}
 use native.Mathlib.Omega.{arith}
 use lib.Dec.{leb, ltb, eqb}
 use borrow.Author.Tests.{lt-ltb, le-ltb, le-leb, lt-leb, eq-eqb, ne_eqb}
-use denote.Enum.Declared.{tag_of}
-use types.Run.{OneOf}
 use Rattle.model.specs.Table.{distance}
 use Rattle.window.specs.Refusals.{is_wire_number_of}
 use Rattle.laws_losses.specs.Marks.{single, opens, mark_of}
@@ -18,7 +14,6 @@ use Rattle.laws_losses.specs.Reading.{alone, ended, opened, place, Turn, turn_to
 use Rattle.loss_list.specs.declared.read.Phase.{Phase}
 use Rattle.loss_list.specs.declared.read.Phase.TheVariants.{Clear, Alone, Ended, Opened}
 use Rattle.loss_list.specs.Promises.{phase_of}
-use Rattle.loss_list.specs.contracts.read.Phase as enum
 
 -- ---- a word's mark
 
@@ -30,16 +25,11 @@ mark-opens first w d b l h f e = rw (sym h ∙ f, lt-ltb w (2 ^ 32) l) (ap opens
 
 -- ---- what a pattern that was passed leaves
 
-pub not-alone : (p : Phase) → OneOf (0 ∷ 2 ∷ 3 ∷ []) (tag_of enum.the_type p) → p ≡ Alone → ⊥
-not-alone p t e =
-    let tag : tag_of enum.the_type p ≡ 1 = ap (tag_of enum.the_type) e in
-    ⊎_elim (λ q. omega arith) (⊎_elim (λ q. omega arith) (λ q. omega arith)) t
-
-pub not_opened : (p : Phase) → OneOf (0 ∷ 1 ∷ 2 ∷ []) (tag_of enum.the_type p) → is_opened_of (phase_of p) ≡ false
+pub not_opened : (p : Phase) → (p ≡ Opened → ⊥) → is_opened_of (phase_of p) ≡ false
 not_opened Clear t = refl
 not_opened Alone t = refl
 not_opened Ended t = refl
-not_opened Opened t = absurd (⊎_elim (λ q. omega arith) (⊎_elim (λ q. omega arith) (λ q. omega arith)) t)
+not_opened Opened t = absurd (t refl)
 
 pub gap-small : (p : Phase) → least_gap_of (phase_of p) ≤ 1
 gap-small Clear = omega arith

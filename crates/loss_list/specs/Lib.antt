@@ -1,2 +1,2 @@
--- What the functions promise (Contracts).
+-- What the functions promise (Promises).
 pub mod Promises
