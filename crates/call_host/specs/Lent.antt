@@ -1,6 +1,6 @@
 -- The contract of every call for a function to which the header is lent. Definitions only. Assumes nothing.
 use Rattle.std.specs.Prelude.{Bool, List, [], ℕ, leb, length}
-use Rattle.std.specs.Borrow.{Bor}
+use Rattle.std.specs.Borrow.{MutBor}
 use denote.Triple.Both.{Both}
 use Rattle.window.specs.declared.AdaptiveReceiverPacketWindow.{AdaptiveReceiverPacketWindow}
 use Rattle.window.specs.declared.answers.Outcome.{Outcome}
@@ -12,7 +12,7 @@ use Rattle.call_base.specs.Answers.{state_of, left_of}
 
 -- the lent header, as a function finds it and as it leaves it
 abbrev pub LentHeader : Type 0
-LentHeader = Both (Bor AdaptiveReceiverPacketWindow) (Bor AdaptiveReceiverPacketWindow)
+LentHeader = Both (MutBor AdaptiveReceiverPacketWindow) (MutBor AdaptiveReceiverPacketWindow)
 
 -- the header at the end of the call, its outcome, the memory and the return list
 abbrev pub left_at : AdaptiveReceiverPacketWindow → Outcome → Memory → List ℕ → Left
