@@ -10,7 +10,13 @@ use Rattle.call_retire.proofs.clear.clear_all.Goals as goal
 
 pub release_retired-visited-requires : goal.release_retired-visited-requires
 release_retired-visited-requires c =
-    let f = fits_after c.args.w c.args.sequences.now c.args.values.now c.args.pages.now c.args.blocks.now c.retire_all-retired.result _ c.retire_all-retired.ensures c.requires.0 in record { window_size_bound = (f.within.size_high, omega (arith, f.within.n_high), omega arith, omega (arith, c.requires.1)); window_size_in_bounds = (f.long.sequences_long, f.long.values_long, f.long.pages_long, f.long.blocks_long) }
+    let s = c.args in
+    let t = c.retire_all-retired in
+    let f = fits_after s.w s.sequences.now s.values.now s.pages.now s.blocks.now t.result _ t.ensures c.requires.0 in
+    record {
+      window_size_bound = (f.within.size_high, omega (arith, f.within.n_high), omega arith, omega (arith, c.requires.1));
+      window_size_in_bounds = (f.long.sequences_long, f.long.values_long, f.long.pages_long, f.long.blocks_long);
+    }
 
 pub returns : goal.returns
 returns c =

@@ -8,20 +8,27 @@ use Rattle.call_base.specs.Answers.{state_of, left_of}
 use Rattle.call_base.specs.Promises.{Fills}
 use Rattle.call_retire.proofs.ClearLaws.{fits_after, clear-bounded-fills}
 use Rattle.call_retire.proofs.clear_bounded.clear_some.Goals as goal
+use Rattle.call_retire.proofs.clear_bounded.clear_some.Goals.{After-release_pages-released}
 
 pub release_pages-released-requires : goal.release_pages-released-requires
 release_pages-released-requires c =
-    let f = fits_after c.args.w c.args.sequences.now c.args.values.now c.args.pages.now c.args.blocks.now c.retire_all-retired.result _ c.retire_all-retired.ensures c.requires.0 in record { window_size_bound = (f.within.size_high, omega (arith, f.within.n_high), omega (arith, c.requires.2), omega (arith, c.requires.1, c.requires.2)); window_size_in_bounds = (f.long.sequences_long, f.long.values_long, f.long.pages_long, f.long.blocks_long) }
+    let s = c.args in
+    let t = c.retire_all-retired in
+    let f = fits_after s.w s.sequences.now s.values.now s.pages.now s.blocks.now t.result _ t.ensures c.requires.0 in
+    record {
+      window_size_bound = (f.within.size_high, omega (arith, f.within.n_high), omega (arith, c.requires.2), omega (arith, c.requires.1, c.requires.2));
+      window_size_in_bounds = (f.long.sequences_long, f.long.values_long, f.long.pages_long, f.long.blocks_long);
+    }
+
+-- no more than the number, which is at most 256
+few : (c : After-release_pages-released) → c.release_pages-released.result.count ≤ 256
+few c = omega (arith, c.release_pages-released.ensures.few, c.requires.2)
 
 pub overflow_cast-answer : goal.overflow_cast-answer
-overflow_cast-answer c =
-    let few : c.release_pages-released.result.count ≤ 256 = omega (arith, c.release_pages-released.ensures.few, c.requires.2) in
-    omega (arith, few)
+overflow_cast-answer c = omega (arith, few (goal.at.overflow_cast-answer c).After-release_pages-released)
 
 pub finish-requires : goal.finish-requires
-finish-requires c =
-    let few : c.release_pages-released.result.count ≤ 256 = omega (arith, c.release_pages-released.ensures.few, c.requires.2) in
-    omega (arith, few)
+finish-requires c = omega (arith, few (goal.at.finish-requires c).After-release_pages-released)
 
 pub returns : goal.returns
 returns c =

@@ -15,63 +15,80 @@ use Rattle.call_retire.proofs.DoesLaws.{release-does}
 use Rattle.call_retire.proofs.AcknowledgeLaws.{release-acts}
 use Rattle.call_retire.proofs.ReleaseLaws.{none-fills, release-fills}
 use Rattle.call_retire.proofs.release_retired.release_retired.Goals as goal
+use Rattle.call_retire.proofs.release_retired.release_retired.Goals.{In_default}
 
 pub returns-in-Refuse : goal.returns-in-Refuse
 returns-in-Refuse c =
     let s = c.args in
-    refusal-meets (release_retired s.budget (leb 384 (length s.returned.now))) ((let s = c.args in state_of s.w (memory s.sequences.now s.values.now s.pages.now s.blocks.now))) (length s.returned.now) refl c.admits-verdict.result c.admits-verdict.ensures s.returned.now _ _ c.in-Refuse.is c.refuse.ensures
+    refusal-meets (release_retired s.budget (leb 384 (length s.returned.now))) (state_of s.w (memory s.sequences.now s.values.now s.pages.now s.blocks.now)) (length s.returned.now) refl
+    c.admits-verdict.result c.admits-verdict.ensures s.returned.now _ _ c.in-Refuse.is c.refuse.ensures
 
+-- past the refusals
+fit : (c : In_default) → let s = c.args in ListsFit s.w s.sequences.now s.values.now s.pages.now s.blocks.now
+fit c =
+    let s = c.args in
+    admitted-fits (release_retired s.budget (leb 384 (length s.returned.now))) (state_of s.w (memory s.sequences.now s.values.now s.pages.now s.blocks.now)) (length s.returned.now) refl
+    c.admits-verdict.result c.admits-verdict.ensures c.in_default.in_default-own.keys2
+
+long : (c : In_default) → 384 ≤ length c.args.returned.now
+long c =
+    let s = c.args in
+    admitted-places (release_retired s.budget (leb 384 (length s.returned.now))) (state_of s.w (memory s.sequences.now s.values.now s.pages.now s.blocks.now)) (length s.returned.now) refl
+    c.admits-verdict.result c.admits-verdict.ensures c.in_default.in_default-own.keys2
+
+few : (c : In_default) → c.args.budget ≤ 256
+few c =
+    let s = c.args in
+    number-taken (known_by s.w) s.budget
+    (admitted-arguments (release_retired s.budget (leb 384 (length s.returned.now))) (state_of s.w (memory s.sequences.now s.values.now s.pages.now s.blocks.now)) (length s.returned.now) refl
+    c.admits-verdict.result c.admits-verdict.ensures c.in_default.in_default-own.keys2)
+
+-- nothing is held
 pub returns-then-w-eq0-2 : goal.returns-then-w-eq0-2
 returns-then-w-eq0-2 c =
     let s = c.args in
-    filled-meets (release_retired s.budget (leb 384 (length s.returned.now))) ((let s = c.args in state_of s.w (memory s.sequences.now s.values.now s.pages.now s.blocks.now))) (length s.returned.now) refl c.admits-verdict.result c.admits-verdict.ensures c.in_default.in_default-own.keys2 s.returned.now _ _ refl refl
+    filled-meets (release_retired s.budget (leb 384 (length s.returned.now))) (state_of s.w (memory s.sequences.now s.values.now s.pages.now s.blocks.now)) (length s.returned.now) refl
+    c.admits-verdict.result c.admits-verdict.ensures c.in_default.in_default-own.keys2 s.returned.now _ _ refl refl
     _ (release-does s.w (memory s.sequences.now s.values.now s.pages.now s.blocks.now) s.budget (leb 384 (length s.returned.now)))
-    (subst (λ (y : Step). Fills (λ (w : Window). release_step w s.budget) ((let s = c.args in state_of s.w (memory s.sequences.now s.values.now s.pages.now s.blocks.now))) s.returned.now
+    (subst (λ (y : Step). Fills (λ (w : Window). release_step w s.budget) (state_of s.w (memory s.sequences.now s.values.now s.pages.now s.blocks.now)) s.returned.now
     (left_of y (memory s.sequences.now s.values.now s.pages.now s.blocks.now) s.returned.now)) (sym c.reply.ensures)
     (none-fills s.w (memory s.sequences.now s.values.now s.pages.now s.blocks.now) s.returned.now s.budget c.if-w-eq0.true))
-    (release-acts s.budget (leb 384 (length s.returned.now)) ((let s = c.args in state_of s.w (memory s.sequences.now s.values.now s.pages.now s.blocks.now))) s.returned.now _)
+    (release-acts s.budget (leb 384 (length s.returned.now)) (state_of s.w (memory s.sequences.now s.values.now s.pages.now s.blocks.now)) s.returned.now _)
 
 -- a visit
 pub release_retired-visited-requires : goal.release_retired-visited-requires
 release_retired-visited-requires c =
-    let fit : let s = c.args in ListsFit s.w s.sequences.now s.values.now s.pages.now s.blocks.now = let s = c.args in admitted-fits (release_retired s.budget (leb 384 (length s.returned.now))) ((let s = c.args in state_of s.w (memory s.sequences.now s.values.now s.pages.now s.blocks.now))) (length s.returned.now) refl c.admits-verdict.result c.admits-verdict.ensures c.in_default.in_default-own.keys2 in
-    let few : c.args.budget ≤ 256 = let s = c.args in number-taken (known_by s.w) s.budget (admitted-arguments (release_retired s.budget (leb 384 (length s.returned.now))) ((let s = c.args in state_of s.w (memory s.sequences.now s.values.now s.pages.now s.blocks.now))) (length s.returned.now) refl c.admits-verdict.result c.admits-verdict.ensures c.in_default.in_default-own.keys2) in
-    let long : 384 ≤ length c.args.returned.now = let s = c.args in admitted-places (release_retired s.budget (leb 384 (length s.returned.now))) ((let s = c.args in state_of s.w (memory s.sequences.now s.values.now s.pages.now s.blocks.now))) (length s.returned.now) refl c.admits-verdict.result c.admits-verdict.ensures c.in_default.in_default-own.keys2 in
-    let f = fit in record { window_size_bound = (f.within.size_high, omega (arith, f.within.n_high), omega (arith, few), omega (arith, long, few)); window_size_in_bounds = (f.long.sequences_long, f.long.values_long, f.long.pages_long, f.long.blocks_long) }
+    let at = (goal.at.release_retired-visited-requires c).In_default in
+    let f = fit at in
+    record {
+      window_size_bound = (f.within.size_high, omega (arith, f.within.n_high), few at, omega (arith, long at, few at));
+      window_size_in_bounds = (f.long.sequences_long, f.long.values_long, f.long.pages_long, f.long.blocks_long);
+    }
 
+-- no more units than the budget, and no more values than units
 pub overflow_cast-answer : goal.overflow_cast-answer
 overflow_cast-answer c =
-    let few : c.args.budget ≤ 256 = let s = c.args in number-taken (known_by s.w) s.budget (admitted-arguments (release_retired s.budget (leb 384 (length s.returned.now))) ((let s = c.args in state_of s.w (memory s.sequences.now s.values.now s.pages.now s.blocks.now))) (length s.returned.now) refl c.admits-verdict.result c.admits-verdict.ensures c.in_default.in_default-own.keys2) in
-    let paid : (c.release_retired-visited.result.units ≤ 256) × (c.release_retired-visited.result.count ≤ 256) = let p = c.release_retired-visited.ensures in
-    let most = few in
-    (omega (arith, p.paid, most), omega (arith, p.few, p.paid, most)) in
-    omega (arith, (paid).1)
+    let p = c.release_retired-visited.ensures in
+    omega (arith, p.few, p.paid, few (goal.at.overflow_cast-answer c).In_default)
 
 pub overflow_cast-answer-2 : goal.overflow_cast-answer-2
 overflow_cast-answer-2 c =
-    let few : c.args.budget ≤ 256 = let s = c.args in number-taken (known_by s.w) s.budget (admitted-arguments (release_retired s.budget (leb 384 (length s.returned.now))) ((let s = c.args in state_of s.w (memory s.sequences.now s.values.now s.pages.now s.blocks.now))) (length s.returned.now) refl c.admits-verdict.result c.admits-verdict.ensures c.in_default.in_default-own.keys2) in
-    let paid : (c.release_retired-visited.result.units ≤ 256) × (c.release_retired-visited.result.count ≤ 256) = let p = c.release_retired-visited.ensures in
-    let most = few in
-    (omega (arith, p.paid, most), omega (arith, p.few, p.paid, most)) in
-    omega (arith, (paid).0)
+    omega (arith, c.release_retired-visited.ensures.paid, few (goal.at.overflow_cast-answer-2 c).In_default)
 
 pub finish-requires : goal.finish-requires
 finish-requires c =
-    let few : c.args.budget ≤ 256 = let s = c.args in number-taken (known_by s.w) s.budget (admitted-arguments (release_retired s.budget (leb 384 (length s.returned.now))) ((let s = c.args in state_of s.w (memory s.sequences.now s.values.now s.pages.now s.blocks.now))) (length s.returned.now) refl c.admits-verdict.result c.admits-verdict.ensures c.in_default.in_default-own.keys2) in
-    let paid : (c.release_retired-visited.result.units ≤ 256) × (c.release_retired-visited.result.count ≤ 256) = let p = c.release_retired-visited.ensures in
-    let most = few in
-    (omega (arith, p.paid, most), omega (arith, p.few, p.paid, most)) in
-    omega (arith, (paid).1)
+    let p = c.release_retired-visited.ensures in
+    omega (arith, p.few, p.paid, few (goal.at.finish-requires c).In_default)
 
 pub returns : goal.returns
 returns c =
-    let long : 384 ≤ length c.args.returned.now = let s = c.args in admitted-places (release_retired s.budget (leb 384 (length s.returned.now))) ((let s = c.args in state_of s.w (memory s.sequences.now s.values.now s.pages.now s.blocks.now))) (length s.returned.now) refl c.admits-verdict.result c.admits-verdict.ensures c.in_default.in_default-own.keys2 in
-    let few : c.args.budget ≤ 256 = let s = c.args in number-taken (known_by s.w) s.budget (admitted-arguments (release_retired s.budget (leb 384 (length s.returned.now))) ((let s = c.args in state_of s.w (memory s.sequences.now s.values.now s.pages.now s.blocks.now))) (length s.returned.now) refl c.admits-verdict.result c.admits-verdict.ensures c.in_default.in_default-own.keys2) in
     let s = c.args in
     let t = c.release_retired-visited in
-    filled-meets (release_retired s.budget (leb 384 (length s.returned.now))) ((let s = c.args in state_of s.w (memory s.sequences.now s.values.now s.pages.now s.blocks.now))) (length s.returned.now) refl c.admits-verdict.result c.admits-verdict.ensures c.in_default.in_default-own.keys2 s.returned.now _ _ refl refl
+    let at = (goal.at.returns c).In_default in
+    filled-meets (release_retired s.budget (leb 384 (length s.returned.now))) (state_of s.w (memory s.sequences.now s.values.now s.pages.now s.blocks.now)) (length s.returned.now) refl
+    c.admits-verdict.result c.admits-verdict.ensures c.in_default.in_default-own.keys2 s.returned.now _ _ refl refl
     _ (release-does s.w (memory s.sequences.now s.values.now s.pages.now s.blocks.now) s.budget (leb 384 (length s.returned.now)))
-    (subst (λ (y : Step). Fills (λ (w : Window). release_step w s.budget) ((let s = c.args in state_of s.w (memory s.sequences.now s.values.now s.pages.now s.blocks.now))) s.returned.now
+    (subst (λ (y : Step). Fills (λ (w : Window). release_step w s.budget) (state_of s.w (memory s.sequences.now s.values.now s.pages.now s.blocks.now)) s.returned.now
     (left_of y (memory s.sequences.now s.values.now t.new.pages t.new.blocks) t.new.returned)) (sym c.finish.ensures)
-    (release-fills s.w s.sequences.now s.values.now s.pages.now s.blocks.now s.returned.now s.budget t.result _ _ _ (long) (few) t.ensures))
-    (release-acts s.budget (leb 384 (length s.returned.now)) ((let s = c.args in state_of s.w (memory s.sequences.now s.values.now s.pages.now s.blocks.now))) s.returned.now _)
+    (release-fills s.w s.sequences.now s.values.now s.pages.now s.blocks.now s.returned.now s.budget t.result _ _ _ (long at) (few at) t.ensures))
+    (release-acts s.budget (leb 384 (length s.returned.now)) (state_of s.w (memory s.sequences.now s.values.now s.pages.now s.blocks.now)) s.returned.now _)

@@ -12,34 +12,47 @@ use Rattle.call_retire.specs.Finish.{finished}
 use Rattle.call_retire.proofs.ReleaseLaws.{none_visited, none-visits}
 use Rattle.call_retire.proofs.RemoveRangeLaws.{range-fills}
 use Rattle.call_retire.proofs.remove_range.remove_positions.Goals as goal
+use Rattle.call_retire.proofs.remove_range.remove_positions.Goals.{After-release_retired-visited}
+
+-- 128 values from the range, and 256 from the release
+few : (c : After-release_retired-visited) → c.retire-retired.result.count + c.release_retired-visited.result.count ≤ 384
+few c =
+    let t = c.retire-retired.ensures in
+    let u = c.release_retired-visited.ensures in
+    omega (arith, t.few, u.few, u.paid)
 
 pub returns-then-left-eq0 : goal.returns-then-left-eq0
 returns-then-left-eq0 c =
+    let s = c.args in
     let t = c.retire-retired in
+    let m = t.new in
     let d = c.wrapping_sub_u32-removed in
+    let start = c.requires.start_bound in
     let n : t.result.count + 0 ≡ t.result.count = omega arith in
-    let none = none-visits t.result.window t.new.sequences t.new.values t.new.pages t.new.blocks t.new.returned t.result.count 256 c.if-left-eq0.true in
-    subst (λ (y : Step). Fills (λ (v : Window). range_step v c.args.start c.args.count) (state_of c.args.w (memory c.args.sequences.now c.args.values.now c.args.pages.now c.args.blocks.now)) c.args.returned.now
-    (left_of y (memory t.new.sequences t.new.values t.new.pages t.new.blocks) t.new.returned))
+    let none = none-visits t.result.window m.sequences m.values m.pages m.blocks m.returned t.result.count 256 c.if-left-eq0.true in
+    subst (λ (y : Step). Fills (λ (v : Window). range_step v s.start s.count) (state_of s.w (memory s.sequences.now s.values.now s.pages.now s.blocks.now)) s.returned.now
+    (left_of y (memory m.sequences m.values m.pages m.blocks) m.returned))
     (ap₂ (λ (x : ℕ) (b : Bool). finished t.result.window (Found d.result) x b) n (and-true t.result.sound) ∙ sym c.finish.ensures)
-    (range-fills c.args.w c.args.sequences.now c.args.values.now c.args.pages.now c.args.blocks.now c.args.returned.now c.args.start c.args.count c.requires.start_bound.0 c.requires.start_bound.1 c.requires.start_bound.2
+    (range-fills s.w s.sequences.now s.values.now s.pages.now s.blocks.now s.returned.now s.start s.count start.0 start.1 start.2
     t.result _ _ _ _ _ t.ensures (none_visited t.result.window) _ _ _ none d.result (omega arith) d.ensures.value)
 
 pub release_retired-visited-requires : goal.release_retired-visited-requires
 release_retired-visited-requires c =
-    let r = c.retire-retired in
-    let t = r.ensures in
-    let f = fits_kept c.args.w r.result.window (memory c.args.sequences.now c.args.values.now c.args.pages.now c.args.blocks.now) (memory r.new.sequences r.new.values r.new.pages r.new.blocks) t.limits t.lengths c.requires.lists_fit in record { window_size_bound = (f.within.size_high, omega (arith, f.within.n_high), omega arith, omega (arith, t.few, t.wrote.long, c.requires.start_bound.3)); window_size_in_bounds = (f.long.sequences_long, f.long.values_long, f.long.pages_long, f.long.blocks_long) }
+    let s = c.args in
+    let t = c.retire-retired.ensures in
+    let m = c.retire-retired.new in
+    let f = fits_kept s.w c.retire-retired.result.window (memory s.sequences.now s.values.now s.pages.now s.blocks.now) (memory m.sequences m.values m.pages m.blocks) t.limits t.lengths
+    c.requires.lists_fit in
+    record {
+      window_size_bound = (f.within.size_high, omega (arith, f.within.n_high), omega arith, omega (arith, t.few, t.wrote.long, c.requires.start_bound.3));
+      window_size_in_bounds = (f.long.sequences_long, f.long.values_long, f.long.pages_long, f.long.blocks_long);
+    }
 
 pub overflow_add-at : goal.overflow_add-at
-overflow_add-at c =
-    let few : c.retire-retired.result.count + c.release_retired-visited.result.count ≤ 384 = let t = c.retire-retired.ensures in let u = c.release_retired-visited.ensures in omega (arith, t.few, u.few, u.paid) in
-    let k = few in omega (arith, k)
+overflow_add-at c = let k = few (goal.at.overflow_add-at c).After-release_retired-visited in omega (arith, k)
 
 pub finish-requires-2 : goal.finish-requires-2
-finish-requires-2 c =
-    let few : c.retire-retired.result.count + c.release_retired-visited.result.count ≤ 384 = let t = c.retire-retired.ensures in let u = c.release_retired-visited.ensures in omega (arith, t.few, u.few, u.paid) in
-    few
+finish-requires-2 c = few (goal.at.finish-requires-2 c).After-release_retired-visited
 
 pub shape_of-sequences : goal.shape_of-sequences
 shape_of-sequences c = c.retire-retired.ensures.lengths.sequences
@@ -58,11 +71,12 @@ shape_of-returned c = c.release_retired-visited.ensures.wrote.long ∙ c.retire-
 
 pub returns : goal.returns
 returns c =
+    let s = c.args in
     let t = c.retire-retired in
     let u = c.release_retired-visited in
     let d = c.wrapping_sub_u32-removed in
-    let r = u.result in
-    subst (λ (y : Step). Fills (λ (v : Window). range_step v c.args.start c.args.count) (state_of c.args.w (memory c.args.sequences.now c.args.values.now c.args.pages.now c.args.blocks.now)) c.args.returned.now
+    let start = c.requires.start_bound in
+    subst (λ (y : Step). Fills (λ (v : Window). range_step v s.start s.count) (state_of s.w (memory s.sequences.now s.values.now s.pages.now s.blocks.now)) s.returned.now
     (left_of y (memory t.new.sequences t.new.values u.new.pages u.new.blocks) u.new.returned)) (sym c.finish-2.ensures)
-    (range-fills c.args.w c.args.sequences.now c.args.values.now c.args.pages.now c.args.blocks.now c.args.returned.now c.args.start c.args.count c.requires.start_bound.0 c.requires.start_bound.1 c.requires.start_bound.2
-    t.result _ _ _ _ _ t.ensures r _ _ _ u.ensures d.result (omega arith) d.ensures.value)
+    (range-fills s.w s.sequences.now s.values.now s.pages.now s.blocks.now s.returned.now s.start s.count start.0 start.1 start.2
+    t.result _ _ _ _ _ t.ensures u.result _ _ _ u.ensures d.result (omega arith) d.ensures.value)

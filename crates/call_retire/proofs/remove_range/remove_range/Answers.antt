@@ -15,42 +15,71 @@ use Rattle.call_base.proofs.RangeLaws.{count-taken}
 use Rattle.call_retire.proofs.DoesLaws.{range-does}
 use Rattle.call_retire.proofs.AcknowledgeLaws.{range-acts}
 use Rattle.call_retire.proofs.remove_range.remove_range.Goals as goal
+use Rattle.call_retire.proofs.remove_range.remove_range.Goals.{In_default}
 
 pub returns-in-Refuse : goal.returns-in-Refuse
 returns-in-Refuse c =
     let s = c.args in
-    refusal-meets (remove_range s.first s.last (leb 384 (length s.returned.now))) ((let s = c.args in state_of s.w (memory s.sequences.now s.values.now s.pages.now s.blocks.now))) (length s.returned.now) refl c.admits-verdict.result c.admits-verdict.ensures s.returned.now _ _ c.in-Refuse.is c.refuse.ensures
+    refusal-meets (remove_range s.first s.last (leb 384 (length s.returned.now))) (state_of s.w (memory s.sequences.now s.values.now s.pages.now s.blocks.now)) (length s.returned.now) refl
+    c.admits-verdict.result c.admits-verdict.ensures s.returned.now _ _ c.in-Refuse.is c.refuse.ensures
+
+-- past the refusals
+fit : (c : In_default) → let s = c.args in ListsFit s.w s.sequences.now s.values.now s.pages.now s.blocks.now
+fit c =
+    let s = c.args in
+    admitted-fits (remove_range s.first s.last (leb 384 (length s.returned.now))) (state_of s.w (memory s.sequences.now s.values.now s.pages.now s.blocks.now)) (length s.returned.now) refl
+    c.admits-verdict.result c.admits-verdict.ensures c.in_default.in_default-own.keys2
+
+long : (c : In_default) → 384 ≤ length c.args.returned.now
+long c =
+    let s = c.args in
+    admitted-places (remove_range s.first s.last (leb 384 (length s.returned.now))) (state_of s.w (memory s.sequences.now s.values.now s.pages.now s.blocks.now)) (length s.returned.now) refl
+    c.admits-verdict.result c.admits-verdict.ensures c.in_default.in_default-own.keys2
+
+few : (c : In_default) → let s = c.args in range_count_of s.first s.last ≤ s.w.window_size
+few c =
+    let s = c.args in
+    count-taken (known_by s.w) s.first s.last
+    (admitted-arguments (remove_range s.first s.last (leb 384 (length s.returned.now))) (state_of s.w (memory s.sequences.now s.values.now s.pages.now s.blocks.now)) (length s.returned.now) refl
+    c.admits-verdict.result c.admits-verdict.ensures c.in_default.in_default-own.keys2)
 
 pub position-start-requires : goal.position-start-requires
-position-start-requires c =
-    let fit : let s = c.args in ListsFit s.w s.sequences.now s.values.now s.pages.now s.blocks.now = let s = c.args in admitted-fits (remove_range s.first s.last (leb 384 (length s.returned.now))) ((let s = c.args in state_of s.w (memory s.sequences.now s.values.now s.pages.now s.blocks.now))) (length s.returned.now) refl c.admits-verdict.result c.admits-verdict.ensures c.in_default.in_default-own.keys2 in
-    (fit).within.size_high
+position-start-requires c = (fit (goal.at.position-start-requires c).In_default).within.size_high
 
 pub remove_positions-step-requires : goal.remove_positions-step-requires
 remove_positions-step-requires c =
-    let fit : let s = c.args in ListsFit s.w s.sequences.now s.values.now s.pages.now s.blocks.now = let s = c.args in admitted-fits (remove_range s.first s.last (leb 384 (length s.returned.now))) ((let s = c.args in state_of s.w (memory s.sequences.now s.values.now s.pages.now s.blocks.now))) (length s.returned.now) refl c.admits-verdict.result c.admits-verdict.ensures c.in_default.in_default-own.keys2 in
-    let few : let s = c.args in range_count_of s.first s.last ≤ s.w.window_size = let s = c.args in count-taken (known_by s.w) s.first s.last (admitted-arguments (remove_range s.first s.last (leb 384 (length s.returned.now))) ((let s = c.args in state_of s.w (memory s.sequences.now s.values.now s.pages.now s.blocks.now))) (length s.returned.now) refl c.admits-verdict.result c.admits-verdict.ensures c.in_default.in_default-own.keys2) in
-    let long : 384 ≤ length c.args.returned.now = let s = c.args in admitted-places (remove_range s.first s.last (leb 384 (length s.returned.now))) ((let s = c.args in state_of s.w (memory s.sequences.now s.values.now s.pages.now s.blocks.now))) (length s.returned.now) refl c.admits-verdict.result c.admits-verdict.ensures c.in_default.in_default-own.keys2 in
     let s = c.args in
-    let f = fit in
+    let at = (goal.at.remove_positions-step-requires c).In_default in
+    let f = fit at in
     let size = s.w.window_size in
-    record { lists_fit = f; start_bound = (omega (arith, c.position-start.ensures, position-lt size s.first), omega (arith, c.range_count-count.ensures, count-some s.first s.last), omega (arith, c.range_count-count.ensures, few, size-le size f.within.size_high), long) }
+    record {
+      lists_fit = f;
+      start_bound = (
+        omega (arith, c.position-start.ensures, position-lt size s.first),
+        omega (arith, c.range_count-count.ensures, count-some s.first s.last),
+        omega (arith, c.range_count-count.ensures, few at, size-le size f.within.size_high),
+        long at,
+      );
+    }
 
 pub keep_point-requires : goal.keep_point-requires
 keep_point-requires c =
-    let fit : let s = c.args in ListsFit s.w s.sequences.now s.values.now s.pages.now s.blocks.now = let s = c.args in admitted-fits (remove_range s.first s.last (leb 384 (length s.returned.now))) ((let s = c.args in state_of s.w (memory s.sequences.now s.values.now s.pages.now s.blocks.now))) (length s.returned.now) refl c.admits-verdict.result c.admits-verdict.ensures c.in_default.in_default-own.keys2 in
-    let few : let s = c.args in range_count_of s.first s.last ≤ s.w.window_size = let s = c.args in count-taken (known_by s.w) s.first s.last (admitted-arguments (remove_range s.first s.last (leb 384 (length s.returned.now))) ((let s = c.args in state_of s.w (memory s.sequences.now s.values.now s.pages.now s.blocks.now))) (length s.returned.now) refl c.admits-verdict.result c.admits-verdict.ensures c.in_default.in_default-own.keys2) in
-    let f = fit in
-    (f.within.size_high, omega (arith, c.range_count-count.ensures, few, size-le c.args.w.window_size f.within.size_high))
+    let at = (goal.at.keep_point-requires c).In_default in
+    let f = fit at in
+    (f.within.size_high, omega (arith, c.range_count-count.ensures, few at, size-le c.args.w.window_size f.within.size_high))
 
 pub returns : goal.returns
 returns c =
     let s = c.args in
     let t = c.remove_positions-step in
+    let count = c.range_count-count in
     let left = left_of t.result (memory t.new.sequences t.new.values t.new.pages t.new.blocks) t.new.returned in
-    let fills = subst (λ (n : ℕ). Fills (λ (w : Window). range_step w (position s.w.window_size s.first) n) ((let s = c.args in state_of s.w (memory s.sequences.now s.values.now s.pages.now s.blocks.now))) s.returned.now left) c.range_count-count.ensures
-    (subst (λ (p : ℕ). Fills (λ (w : Window). range_step w p c.range_count-count.result) ((let s = c.args in state_of s.w (memory s.sequences.now s.values.now s.pages.now s.blocks.now))) s.returned.now left) c.position-start.ensures t.ensures) in
-    filled-meets (remove_range s.first s.last (leb 384 (length s.returned.now))) ((let s = c.args in state_of s.w (memory s.sequences.now s.values.now s.pages.now s.blocks.now))) (length s.returned.now) refl c.admits-verdict.result c.admits-verdict.ensures c.in_default.in_default-own.keys2 s.returned.now left _ refl refl
+    let fills = subst (λ (n : ℕ). Fills (λ (w : Window). range_step w (position s.w.window_size s.first) n) (state_of s.w (memory s.sequences.now s.values.now s.pages.now s.blocks.now)) s.returned.now left)
+    count.ensures
+    (subst (λ (p : ℕ). Fills (λ (w : Window). range_step w p count.result) (state_of s.w (memory s.sequences.now s.values.now s.pages.now s.blocks.now)) s.returned.now left)
+    c.position-start.ensures t.ensures) in
+    filled-meets (remove_range s.first s.last (leb 384 (length s.returned.now))) (state_of s.w (memory s.sequences.now s.values.now s.pages.now s.blocks.now)) (length s.returned.now) refl
+    c.admits-verdict.result c.admits-verdict.ensures c.in_default.in_default-own.keys2 s.returned.now left _ refl refl
     _ (range-does s.w (memory s.sequences.now s.values.now s.pages.now s.blocks.now) s.first s.last (leb 384 (length s.returned.now)))
-    fills (λ a z. range-acts s.first s.last (leb 384 (length s.returned.now)) s.w ((let s = c.args in state_of s.w (memory s.sequences.now s.values.now s.pages.now s.blocks.now))).memory s.returned.now t.result _ _ a z fills.taken
-    c.range_count-count.result c.range_count-count.ensures c.keep_point.result c.keep_point.ensures)
+    fills (λ a z. range-acts s.first s.last (leb 384 (length s.returned.now)) s.w (memory s.sequences.now s.values.now s.pages.now s.blocks.now) s.returned.now t.result _ _
+    a z fills.taken count.result count.ensures c.keep_point.result c.keep_point.ensures)

@@ -1,13 +1,12 @@
-use Rattle.std.proofs.Common.{◌<◌, arith}
+use Rattle.std.proofs.Common.{arith}
 use Rattle.window.specs.Memory.{memory}
 use Rattle.window.proofs.MemoryLaws.{capacity-le}
 use Rattle.call_retire.proofs.RemoveRangeLaws.{ready-performs}
 use Rattle.call_retire.proofs.remove_range.retire.Goals as goal
 
+-- the position is one of a window
 pub ready-window-requires : goal.ready-window-requires
-ready-window-requires c =
-    let small : c.args.start < 65536 = omega (arith, capacity-le c.args.w.window_size, c.requires.start_bound.0) in
-    small
+ready-window-requires c = omega (arith, capacity-le c.args.w.window_size, c.requires.start_bound.0)
 
 pub returns : goal.returns
 returns c =
