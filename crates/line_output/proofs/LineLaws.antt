@@ -2,7 +2,7 @@
 use Rattle.std.proofs.Common.{◌≡◌, ℕ, ◌+◌, ◌*◌, ◌≤◌, List, [], ◌∷◌, ◌++◌, length, take, sym, ap, ◌∙◌, subst, append-nil, arith, length-append, length-take-le}
 use Rattle.line_text.specs.Output.{digits, tabbed, paired}
 use Rattle.line_text.specs.PrintContracts.{Puts}
-use Rattle.line_text.proofs.PrintLaws.{put_then, tabbed-none, tabbed-cons, tabbed-few, paired-few, at-most-20, marked-few}
+use Rattle.line_text.proofs.PrintLaws.{tabbed-none, tabbed-cons, tabbed-few, paired-few, at-most-20, marked-few}
 use Rattle.window.specs.declared.AdaptiveReceiverPacketWindow.{AdaptiveReceiverPacketWindow}
 use Rattle.window.specs.declared.answers.Answer as code
 use Rattle.model.specs.Steps.{demotions_of}

@@ -1,6 +1,6 @@
 -- Whether there is a place for a line. Assumes nothing.
-use Rattle.std.proofs.Common.{◌≡◌, ℕ, ◌+◌, ◌-◌, ◌*◌, ◌<◌, ◌≤◌, Bool, true, false, not, ◌&&◌, leb, List, sym, refl, ◌∙◌, true≢false, mul-le-mul, arith, le-leb, leb-false, leb-true}
-use borrow.Author.Tests.{lt-leb, not-true, not-false}
+use Rattle.std.proofs.Common.{◌≡◌, ℕ, ◌+◌, ◌-◌, ◌*◌, ◌<◌, ◌≤◌, Bool, true, false, ◌&&◌, leb, List, sym, refl, ◌∙◌, true≢false, mul-le-mul, arith, le-leb, leb-false, leb-true}
+use borrow.Author.Tests.{lt-leb}
 use Rattle.words.proofs.CaseLaws.{bool, both}
 use Rattle.line_text.specs.PrintContracts.{Puts}
 use Rattle.line_output.specs.Promises.{room_for, PutsIf}
@@ -46,16 +46,16 @@ module _ (buffer at list count each : ℕ) where
 
 -- ---- what a test leads to
 
-pub tested : (b room : Bool) → b ≡ room → not b ≡ false → room ≡ true
-tested b room e t = sym e ∙ not-false b t
+pub tested : (b room : Bool) → b ≡ room → b ≡ true → room ≡ true
+tested b room e t = sym e ∙ t
 
-pub tested_le : (b : Bool) (n m : ℕ) → b ≡ leb n m → not b ≡ false → n ≤ m
+pub tested_le : (b : Bool) (n m : ℕ) → b ≡ leb n m → b ≡ true → n ≤ m
 tested_le b n m e t = leb-true n m (tested b (leb n m) e t)
 
 -- there is no place: nothing is put
-pub no_room : (b room : Bool) (at : ℕ) (bytes out : List ℕ) → b ≡ room → not b ≡ true → PutsIf room at bytes out at out
+pub no_room : (b room : Bool) (at : ℕ) (bytes out : List ℕ) → b ≡ room → b ≡ false → PutsIf room at bytes out at out
 no_room b room at bytes out e t = record {
-  puts = λ h. absurd (true≢false (sym h ∙ sym e ∙ not-true b t));
+  puts = λ h. absurd (true≢false (sym h ∙ sym e ∙ t));
   end = λ h. refl;
   stays = λ h. refl;
 }
@@ -73,9 +73,9 @@ pub short-values : (room : Bool) (values count at : ℕ) (bytes out : List ℕ) 
 short-values room values count at bytes out h =
     record { puts = λ e. absurd (true≢false (sym (both room (leb count values) e).1 ∙ lt-leb count values h)); end = λ e. refl; stays = λ e. refl }
 
-pub no-room-pairs : (b room : Bool) (values count at : ℕ) (bytes out : List ℕ) → b ≡ room → not b ≡ true → PutsIf (room && leb count values) at bytes out at out
+pub no-room-pairs : (b room : Bool) (values count at : ℕ) (bytes out : List ℕ) → b ≡ room → b ≡ false → PutsIf (room && leb count values) at bytes out at out
 no-room-pairs b room values count at bytes out e t =
-    record { puts = λ h. absurd (true≢false (sym (both room (leb count values) h).0 ∙ sym e ∙ not-true b t)); end = λ h. refl; stays = λ h. refl }
+    record { puts = λ h. absurd (true≢false (sym (both room (leb count values) h).0 ∙ sym e ∙ t)); end = λ h. refl; stays = λ h. refl }
 
-pub room-for-both : (b room : Bool) (values count : ℕ) → b ≡ room → not b ≡ false → count ≤ values → room && leb count values ≡ true
+pub room-for-both : (b room : Bool) (values count : ℕ) → b ≡ room → b ≡ true → count ≤ values → room && leb count values ≡ true
 room-for-both b room values count e t l = rw (tested b room e t, le-leb count values l)

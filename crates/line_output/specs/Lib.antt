@@ -1,3 +1,3 @@
--- Output lines: their bytes (Output), and what the functions leave (Contracts).
+-- Output lines: their bytes (Output), and what the functions leave (Promises).
 pub mod Output
 pub mod Promises

@@ -61,12 +61,12 @@ put_run-requires c =
     let small : (c.args.count ≤ 65536) × (c.loop-d.start + c.loop-d.run ≡ c.loop-d.d) = (omega (arith, c.requires.0.within.size_high, c.requires.1), c.loop-d.invariant.2.run) in
     let ended : Wrote (seen_lost c.args.w c.args.sequences.now c.args.pages.now c.args.blocks.now c.args.first) c.args.first c.args.count c.args.words.now c.loop-d.start c.loop-d.run c.args.count c.loop-d.at c.loop-d.words = let e : c.loop-d.d ≡ c.args.count = omega (arith, c.loop-d.invariant.0, c.loop-d-test.false) in
     rw e at c.loop-d.invariant.2 in
-    (omega (arith, small, c.loop-d.invariant.0), omega (arith, end-room (seen_lost c.args.w c.args.sequences.now c.args.pages.now c.args.blocks.now c.args.first) _ _ _ _ _ _ _ (ended), c.loop-d.invariant.1, c.requires.2))
+    (omega (arith, small, c.loop-d.invariant.0), omega (arith, end-room (seen_lost c.args.w c.args.sequences.now c.args.pages.now c.args.blocks.now c.args.first) _ _ _ _ _ _ _ ended, c.loop-d.invariant.1, c.requires.2))
 
 pub returns : goal.returns
 returns c =
     let ended : Wrote (seen_lost c.args.w c.args.sequences.now c.args.pages.now c.args.blocks.now c.args.first) c.args.first c.args.count c.args.words.now c.loop-d.start c.loop-d.run c.args.count c.loop-d.at c.loop-d.words = let e : c.loop-d.d ≡ c.args.count = omega (arith, c.loop-d.invariant.0, c.loop-d-test.false) in
     rw e at c.loop-d.invariant.2 in
     let put = c.put_run.ensures in
-    let f = filled-over _ _ _ _ (wrote-end (seen_lost c.args.w c.args.sequences.now c.args.pages.now c.args.blocks.now c.args.first) _ _ _ _ _ _ _ (ended) c.requires.2) in
+    let f = filled-over _ _ _ _ (wrote-end (seen_lost c.args.w c.args.sequences.now c.args.pages.now c.args.blocks.now c.args.first) _ _ _ _ _ _ _ ended c.requires.2) in
     record { number = put.value ∙ f.0; list = put.words_after ∙ f.1 }

@@ -2,7 +2,7 @@
 use mathlib.Core.Path.{sym, ◌∙◌}
 use Prim.Native.Nat.{◌^◌, ◌≤◌, ◌<◌}
 use native.Mathlib.Omega.{arith}
-use borrow.Author.Tests.{ltb-true, not-true, not-false}
+use borrow.Author.Tests.{ltb-true}
 use Rattle.words.proofs.CaseLaws.{both}
 use Rattle.window.specs.Memory.{memory}
 use Rattle.window.specs.Refusals.{is_wire_number_of}
@@ -29,7 +29,8 @@ returns-then-lost-count c =
 
 pub is_loss_list-requires : goal.is_loss_list-requires
 is_loss_list-requires c =
-    let small : (c.args.first < 2 ^ 31) × (c.range_count-count.result ≤ 65536) = let s = c.args in
+    let small : (c.args.first < 2 ^ 31) × (c.range_count-count.result ≤ 65536) =
+    let s = c.args in
     let u = state_of s.w (memory s.sequences.now s.values.now s.pages.now s.blocks.now) in
     let q = write_losses s.first s.last 0 in
     let fit = asked-fits q u c.admits-verdict.result c.admits-verdict.ensures c.in_default.in_default-own.keys2 in
@@ -44,11 +45,12 @@ pub returns-then-not-is_loss_list : goal.returns-then-not-is_loss_list
 returns-then-not-is_loss_list c =
     let s = c.args in
     read-wrong s.first s.last s.words.now s.w (memory s.sequences.now s.values.now s.pages.now s.blocks.now) s.lost.now c.admits-verdict.result c.admits-verdict.ensures c.in_default.in_default-own.keys2 c.range_count-count.result c.range_count-count.ensures _
-    (omega (arith, c.if-lost-count.false)) (sym c.is_loss_list.ensures ∙ not-true c.is_loss_list.result c.if-not-is_loss_list.true-raw) c.refuse-then-not-is_loss_list.ensures
+    (omega (arith, c.if-lost-count.false)) (sym c.is_loss_list.ensures ∙ c.if-not-is_loss_list.true) c.refuse-then-not-is_loss_list.ensures
 
 pub put_flags-n-requires : goal.put_flags-n-requires
 put_flags-n-requires c =
-    let small : (c.args.first < 2 ^ 31) × (c.range_count-count.result ≤ 65536) = let s = c.args in
+    let small : (c.args.first < 2 ^ 31) × (c.range_count-count.result ≤ 65536) =
+    let s = c.args in
     let u = state_of s.w (memory s.sequences.now s.values.now s.pages.now s.blocks.now) in
     let q = write_losses s.first s.last 0 in
     let fit = asked-fits q u c.admits-verdict.result c.admits-verdict.ensures c.in_default.in_default-own.keys2 in
@@ -57,10 +59,10 @@ put_flags-n-requires c =
       ltb-true s.first (2 ^ 31) (both (is_wire_number_of s.first) (is_wire_number_of s.last) wire).0,
       omega (arith, c.range_count-count.ensures, count-taken (known_by s.w) s.first s.last taken, fit.within.size_high),
     ) in
-    ((small).0, (small).1, omega (arith, c.if-lost-count.false), sym c.is_loss_list.ensures ∙ not-false c.is_loss_list.result c.if-not-is_loss_list.false-raw)
+    (small.0, small.1, omega (arith, c.if-lost-count.false), sym c.is_loss_list.ensures ∙ c.if-not-is_loss_list.false)
 
 pub returns : goal.returns
 returns c =
     let s = c.args in
     read_done s.first s.last s.words.now s.w (memory s.sequences.now s.values.now s.pages.now s.blocks.now) s.lost.now c.admits-verdict.result c.admits-verdict.ensures c.in_default.in_default-own.keys2 c.range_count-count.result c.range_count-count.ensures _ _ _
-    (omega (arith, c.if-lost-count.false)) (sym c.is_loss_list.ensures ∙ not-false c.is_loss_list.result c.if-not-is_loss_list.false-raw) c.put_flags-n.ensures c.reply.ensures
+    (omega (arith, c.if-lost-count.false)) (sym c.is_loss_list.ensures ∙ c.if-not-is_loss_list.false) c.put_flags-n.ensures c.reply.ensures

@@ -84,4 +84,4 @@ returns c =
           (omega (arith, c.most_words.ensures, w.if-words-most_words.false))
     ] in
     write_done s.first s.last s.w (memory s.sequences.now s.values.now s.pages.now s.blocks.now) c.range_count-count.result c.range_count-count.ensures s.words.now c.admits-verdict.result c.admits-verdict.ensures c.in_default.in_default-own.keys2 _ _ _
-    (room) c.put_losses-n.ensures c.reply.ensures
+    room c.put_losses-n.ensures c.reply.ensures

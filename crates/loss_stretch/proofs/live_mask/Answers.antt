@@ -14,7 +14,7 @@ pub reachable-requires : goal.reachable-requires
 reachable-requires c =
     let page : PageBounds c.args.w.window_size (c.position-page.result / 64) = subst (λ (q : ℕ). PageBounds c.args.w.window_size (q / 64)) (sym c.position-page.ensures) (sequence-bounds c.args.w.window_size c.args.sequence) in
     let fit : ListsLent c.args.w c.args.sequences.now c.args.pages.now c.args.blocks.now = c.requires in
-    ((page).page-fits, omega (arith, (page).block_words, (fit).blocks_long))
+    (page.page-fits, omega (arith, page.block_words, fit.blocks_long))
 
 pub returns-then-reachable-eq0 : goal.returns-then-reachable-eq0
 returns-then-reachable-eq0 c =
@@ -26,20 +26,20 @@ pub page_words-words-requires : goal.page_words-words-requires
 page_words-words-requires c =
     let page : PageBounds c.args.w.window_size (c.position-page.result / 64) = subst (λ (q : ℕ). PageBounds c.args.w.window_size (q / 64)) (sym c.position-page.ensures) (sequence-bounds c.args.w.window_size c.args.sequence) in
     let fit : ListsLent c.args.w c.args.sequences.now c.args.pages.now c.args.blocks.now = c.requires in
-    ((page).page-fits, omega (arith, (page).words, (fit).pages_long))
+    (page.page-fits, omega (arith, page.words, fit.pages_long))
 
 pub page_cells-cells-requires : goal.page_cells-cells-requires
 page_cells-cells-requires c =
     let page : PageBounds c.args.w.window_size (c.position-page.result / 64) = subst (λ (q : ℕ). PageBounds c.args.w.window_size (q / 64)) (sym c.position-page.ensures) (sequence-bounds c.args.w.window_size c.args.sequence) in
     let fit : ListsLent c.args.w c.args.sequences.now c.args.pages.now c.args.blocks.now = c.requires in
-    omega (arith, (page).cells, (fit).sequences_long)
+    omega (arith, page.cells, fit.sequences_long)
 
 pub page_mask-requires : goal.page_mask-requires
 page_mask-requires c =
     let fit : ListsLent c.args.w c.args.sequences.now c.args.pages.now c.args.blocks.now = c.requires in
     let page : PageBounds c.args.w.window_size (c.position-page.result / 64) = subst (λ (q : ℕ). PageBounds c.args.w.window_size (q / 64)) (sym c.position-page.ensures) (sequence-bounds c.args.w.window_size c.args.sequence) in
     let f = fit in (
-      ap length c.page_cells-cells.ensures ∙ part_length _ c.args.sequences.now (omega (arith, (page).cells, f.sequences_long)),
+      ap length c.page_cells-cells.ensures ∙ part_length _ c.args.sequences.now (omega (arith, page.cells, f.sequences_long)),
       omega (arith, f.within.n_high),
     )
 

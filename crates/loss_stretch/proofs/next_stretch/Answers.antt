@@ -41,13 +41,11 @@ returns-then-count-d c =
 
 pub returns : goal.returns
 returns c =
-    let ends : let q = c.sequence_at-sequence.result in
-    (q % 64 < c.row_end.result) × (c.row_end.result ≤ 64) = let a = c.args in
-    let row = c.row_at-row in
-    let at = c.sequence_at-sequence in
-    end_after a.w a.sequences.now a.pages.now a.blocks.now a.first a.count a.d at.result row.result c.row_end.result (omega arith) at.ensures row.ensures c.row_end.ensures in
+    let q = c.sequence_at-sequence.result in
     let a = c.args in
     let row = c.row_at-row in
     let at = c.sequence_at-sequence in
+    let ends : (q % 64 < c.row_end.result) × (c.row_end.result ≤ 64) =
+    end_after a.w a.sequences.now a.pages.now a.blocks.now a.first a.count a.d at.result row.result c.row_end.result (omega arith) at.ensures row.ensures c.row_end.ensures in
     stretch a.w a.sequences.now a.pages.now a.blocks.now a.first a.count a.d at.result row.result c.row_end.result (omega arith) at.ensures row.ensures c.row_end.ensures
     _ _ c.bit-lost.ensures (omega (arith, ends)) (omega arith) (omega arith)

@@ -16,27 +16,27 @@ returns-in_default c =
 
 pub overflow_add-at : goal.overflow_add-at
 overflow_add-at c =
-    let goes_on : let s = c.args in
+    let s = c.args in
     let g = c.in-Taken in
-    (c.loop-i.at + g.gap + g.lost ≤ s.count) × Read s.first s.count s.words.now (place (c.loop-i.at + g.gap + g.lost) (phase_of g.next)) (c.loop-i.i + 1) = let s = c.args in
+    let goes_on : (c.loop-i.at + g.gap + g.lost ≤ s.count) × Read s.first s.count s.words.now (place (c.loop-i.at + g.gap + g.lost) (phase_of g.next)) (c.loop-i.i + 1) =
     reads_on _ _ s.words.now _ c.loop-i.phase _ _ c.word_turn-turned.ensures _ _ _ c.in-Taken.is c.loop-i.invariant.2 c.loop-i-test.true in
-    omega (arith, (goes_on).0)
+    omega (arith, goes_on.0)
 
 pub overflow_add-at-in-loop-i : goal.overflow_add-at-in-loop-i
 overflow_add-at-in-loop-i c =
-    let goes_on : let s = c.args in
+    let s = c.args in
     let g = c.in-Taken in
-    (c.loop-i.at + g.gap + g.lost ≤ s.count) × Read s.first s.count s.words.now (place (c.loop-i.at + g.gap + g.lost) (phase_of g.next)) (c.loop-i.i + 1) = let s = c.args in
+    let goes_on : (c.loop-i.at + g.gap + g.lost ≤ s.count) × Read s.first s.count s.words.now (place (c.loop-i.at + g.gap + g.lost) (phase_of g.next)) (c.loop-i.i + 1) =
     reads_on _ _ s.words.now _ c.loop-i.phase _ _ c.word_turn-turned.ensures _ _ _ c.in-Taken.is c.loop-i.invariant.2 c.loop-i-test.true in
-    omega (arith, (goes_on).0)
+    omega (arith, goes_on.0)
 
 pub loop-i-preserved : goal.loop-i-preserved
 loop-i-preserved c =
-    let goes_on : let s = c.args in
+    let s = c.args in
     let g = c.in-Taken in
-    (c.loop-i.at + g.gap + g.lost ≤ s.count) × Read s.first s.count s.words.now (place (c.loop-i.at + g.gap + g.lost) (phase_of g.next)) (c.loop-i.i + 1) = let s = c.args in
+    let goes_on : (c.loop-i.at + g.gap + g.lost ≤ s.count) × Read s.first s.count s.words.now (place (c.loop-i.at + g.gap + g.lost) (phase_of g.next)) (c.loop-i.i + 1) =
     reads_on _ _ s.words.now _ c.loop-i.phase _ _ c.word_turn-turned.ensures _ _ _ c.in-Taken.is c.loop-i.invariant.2 c.loop-i-test.true in
-    (omega arith, (goes_on).0, (goes_on).1)
+    (omega arith, goes_on.0, goes_on.1)
 
 pub returns : goal.returns
 returns c =

@@ -29,12 +29,12 @@ overflow_add-at-2 c = omega (arith, c.least_gap.ensures, gap-small c.args.phase)
 
 pub returns-then-d-at-3 : goal.returns-then-d-at-3
 returns-then-d-at-3 c =
-    let other : let s = c.args in s.phase ≡ Alone → s.d ≡ s.at → ⊥ = λ e. elim c.match-phase-2.branch [ in-Alone+else-d-at-2 w ↦ w.if-d-at-2.false | in_default-phase w ↦ absurd (w.in_default-phase.not-Alone e) ] in
     let s = c.args in
-    single-touching s.count s.at s.d s.phase (not_opened s.phase c.in_default.not-Opened) (other) (omega (arith, c.least_gap.ensures))
+    let other : s.phase ≡ Alone → s.d ≡ s.at → ⊥ = λ e. elim c.match-phase-2.branch [ in-Alone+else-d-at-2 w ↦ w.if-d-at-2.false | in_default-phase w ↦ absurd (w.in_default-phase.not-Alone e) ] in
+    single-touching s.count s.at s.d s.phase (not_opened s.phase c.in_default.not-Opened) other (omega (arith, c.least_gap.ensures))
 
 pub returns : goal.returns
 returns c =
-    let other : let s = c.args in s.phase ≡ Alone → s.d ≡ s.at → ⊥ = λ e. elim c.match-phase-2.branch [ in-Alone+else-d-at-2 w ↦ w.if-d-at-2.false | in_default-phase w ↦ absurd (w.in_default-phase.not-Alone e) ] in
     let s = c.args in
-    single-taken s.count s.at s.d s.phase (not_opened s.phase c.in_default.not-Opened) (other) (omega (arith, c.least_gap.ensures)) (omega arith)
+    let other : s.phase ≡ Alone → s.d ≡ s.at → ⊥ = λ e. elim c.match-phase-2.branch [ in-Alone+else-d-at-2 w ↦ w.if-d-at-2.false | in_default-phase w ↦ absurd (w.in_default-phase.not-Alone e) ] in
+    single-taken s.count s.at s.d s.phase (not_opened s.phase c.in_default.not-Opened) other (omega (arith, c.least_gap.ensures)) (omega arith)
