@@ -35,4 +35,4 @@ pub record Lists (u : State) (ss vs : List ℕ) (r : ℕ) (ss' vs' : List ℕ) :
 -- as a signature says it
 abbrev pub ListsBy : AdaptiveReceiverPacketWindow → (sequences values pages blocks listed_sequences listed_values : Lent) → ℕ → Type 0
 ListsBy w s v p b ss vs r =
-    Lists (state_of w (found_in s v p b)) ss.entry.now vs.entry.now r ss.exit.now vs.exit.now
+    Lists (state_of w (found_in s v p b)) ss.entry vs.entry r ss.exit vs.exit

@@ -1,5 +1,5 @@
 // The listing of live pairs.
-ghost use Rattle.window.specs.Lent.{lent};
+ghost use Rattle.window.specs.Lent.{lent, lent_mut};
 ghost use Rattle.line_calls.specs.List.{ListsBy};
 
 use call_read::iter;
@@ -16,7 +16,7 @@ pub fn live_pairs(
     listed_sequences: &mut [u32],
     listed_values: &mut [u32],
 ) -> usize
-    ensures { ListsBy w (lent sequences) (lent values) (lent pages) (lent blocks) listed_sequences listed_values result }
+    ensures { ListsBy w (lent sequences) (lent values) (lent pages) (lent blocks) (lent_mut listed_sequences) (lent_mut listed_values) result }
 {
     let mut cell: u32 = 0;
     let mut count: usize = 0;

@@ -24,8 +24,8 @@ pub record Kept (u : State) : Type 0 where
   pub sound : 0 < u.header.window_size → SoundWithPoint (window_of u)
 
 -- as a signature says it, of lists as a function finds them
-abbrev pub KeptIn : AdaptiveReceiverPacketWindow → (sequences values pages blocks : Bor (List ℕ)) → Type 0
-KeptIn w s v p b = Kept (state_of w (memory s.now v.now p.now b.now))
+abbrev pub KeptIn : AdaptiveReceiverPacketWindow → (sequences values pages blocks : List ℕ) → Type 0
+KeptIn w s v p b = Kept (state_of w (memory s v p b))
 
 -- a line was answered as p says: its bytes stand from `at` on, and r is the place after them
 pub record Answers (p : Printed) (u' : State) (at : ℕ) (out : List ℕ) (r : ℕ) (out' : List ℕ) : Type 0 where
@@ -36,8 +36,8 @@ pub record Answers (p : Printed) (u' : State) (at : ℕ) (out : List ℕ) (r : �
 -- as a signature says it
 abbrev pub AnswersBy : (Window → Printed) → AdaptiveReceiverPacketWindow → (sequences values pages blocks out : Lent) → ℕ → Answered → Type 0
 AnswersBy p w ss vs pages blocks out at r =
-    (at ≤ length out.entry.now)
-    × Answers (p (kept_of (state_of w (found_in ss vs pages blocks)))) (state_of r.window (left_in ss vs pages blocks)) at out.entry.now r.at out.exit.now
+    (at ≤ length out.entry)
+    × Answers (p (kept_of (state_of w (found_in ss vs pages blocks)))) (state_of r.window (left_in ss vs pages blocks)) at out.entry r.at out.exit
 
 -- ---- a line that comes in parts
 
@@ -63,7 +63,7 @@ pub record LineEnds (u : State) (p : Program) (line : List ℕ) (n : ℕ) (out :
 abbrev pub LineEndsBy : Program → Lent → (n from : ℕ) → (sequences values pages blocks out : Lent) → Program → Type 0
 LineEndsBy p line n from ss vs pages blocks out r =
     (r.from ≡ from)
-    × LineEnds (state_of p.window (found_in ss vs pages blocks)) p line.entry.now n out.entry.now r (state_of r.window (left_in ss vs pages blocks)) out.exit.now
+    × LineEnds (state_of p.window (found_in ss vs pages blocks)) p line.entry n out.entry r (state_of r.window (left_in ss vs pages blocks)) out.exit
 
 -- ---- a part of the input
 
@@ -81,9 +81,9 @@ between from to part = slice_range part from to
 -- as a signature says it; `part`, `line` and the others are as p found them and r left them
 abbrev pub TakesBy : Program → List ℕ → (line sequences values pages blocks out : Lent) → Program → Type 0
 TakesBy p part line ss vs pages blocks out r =
-    (b : List ℕ) → Holds line.entry.now p.length b
-    → Takes (state_of p.window (found_in ss vs pages blocks)) p.notes b (between p.from r.from part) p.at out.entry.now r
-    line.exit.now (state_of r.window (left_in ss vs pages blocks)) out.exit.now
+    (b : List ℕ) → Holds line.entry p.length b
+    → Takes (state_of p.window (found_in ss vs pages blocks)) p.notes b (between p.from r.from part) p.at out.entry r
+    line.exit (state_of r.window (left_in ss vs pages blocks)) out.exit
 
 -- where it stopped: at the end of the part, or with more than 65536 bytes put, and never before a line was taken
 pub record Stops (p : Program) (end : ℕ) (r : Program) : Type 0 where
@@ -102,6 +102,6 @@ pub record Ends (u : State) (n : Notes) (b : List ℕ) (at : ℕ) (out : List �
 -- as a signature says it
 abbrev pub EndsBy : Program → (line sequences values pages blocks out : Lent) → Program → Type 0
 EndsBy p line ss vs pages blocks out r =
-    (b : List ℕ) → Holds line.entry.now p.length b
-    → Ends (state_of p.window (found_in ss vs pages blocks)) p.notes b p.at out.entry.now r
-    (state_of r.window (left_in ss vs pages blocks)) out.exit.now
+    (b : List ℕ) → Holds line.entry p.length b
+    → Ends (state_of p.window (found_in ss vs pages blocks)) p.notes b p.at out.entry r
+    (state_of r.window (left_in ss vs pages blocks)) out.exit

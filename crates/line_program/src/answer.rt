@@ -36,9 +36,9 @@ fn unknown(
     out: &mut [u8; 262144],
     at: usize,
 ) -> Answered
-    requires kept_in { KeptIn w sequences values pages blocks }
+    requires kept_in { KeptIn w sequences.now values.now pages.now blocks.now }
     requires at_bound { at ≤ 65536 }
-    ensures { AnswersBy unknown_line w (lent sequences) (lent values) (lent pages) (lent blocks) out at result }
+    ensures { AnswersBy unknown_line w (lent sequences) (lent values) (lent pages) (lent blocks) (lent_mut out) at result }
 {
     Answered {
         window: w,
@@ -58,9 +58,9 @@ fn create(
     at: usize,
     f: Fields,
 ) -> Answered
-    requires kept_in { KeptIn w sequences values pages blocks }
+    requires kept_in { KeptIn w sequences.old values.old pages.old blocks.old }
     requires at_bound { at ≤ 65536 }
-    ensures { AnswersBy (λ k. new_line k f.first f.second f.third) w (lent_mut sequences) (lent_mut values) (lent_mut pages) (lent_mut blocks) out at result }
+    ensures { AnswersBy (λ k. new_line k f.first f.second f.third) w (lent_mut sequences) (lent_mut values) (lent_mut pages) (lent_mut blocks) (lent_mut out) at result }
 {
     if 4096 < f.first {
         return unknown(w, sequences, values, pages, blocks, out, at);
@@ -92,10 +92,10 @@ fn list(
     out: &mut [u8; 262144],
     at: usize,
 ) -> Answered
-    requires kept_in { KeptIn w sequences values pages blocks }
+    requires kept_in { KeptIn w sequences.now values.now pages.now blocks.now }
     requires at_bound { at ≤ 65536 }
     requires window_size_nonzero { 0 < w.window_size }
-    ensures { AnswersBy list_line w (lent sequences) (lent values) (lent pages) (lent blocks) out at result }
+    ensures { AnswersBy list_line w (lent sequences) (lent values) (lent pages) (lent blocks) (lent_mut out) at result }
 {
     let count = live_pairs(
         w,
@@ -124,10 +124,10 @@ fn answer_call(
     at: usize,
     f: Fields,
 ) -> Answered
-    requires kept_in { KeptIn w sequences values pages blocks }
+    requires kept_in { KeptIn w sequences.old values.old pages.old blocks.old }
     requires at_bound { at ≤ 65536 }
     requires window_size_nonzero { 0 < w.window_size }
-    ensures { AnswersBy (λ k. command_line k f.letter (called (call_of (said_by f) true))) w (lent_mut sequences) (lent_mut values) (lent_mut pages) (lent_mut blocks) out at result }
+    ensures { AnswersBy (λ k. command_line k f.letter (called (call_of (said_by f) true))) w (lent_mut sequences) (lent_mut values) (lent_mut pages) (lent_mut blocks) (lent_mut out) at result }
 {
     let letter = f.letter;
     let called = call(w, sequences, values, pages, blocks, returned, f);
@@ -167,9 +167,9 @@ fn answer(
     at: usize,
     f: Fields,
 ) -> Answered
-    requires kept_in { KeptIn w sequences values pages blocks }
+    requires kept_in { KeptIn w sequences.old values.old pages.old blocks.old }
     requires at_bound { at ≤ 65536 }
-    ensures { AnswersBy (λ k. command_line k f.letter (command_of (said_by f))) w (lent_mut sequences) (lent_mut values) (lent_mut pages) (lent_mut blocks) out at result }
+    ensures { AnswersBy (λ k. command_line k f.letter (command_of (said_by f))) w (lent_mut sequences) (lent_mut values) (lent_mut pages) (lent_mut blocks) (lent_mut out) at result }
 {
     if f.letter == b'n' {
         return create(w, sequences, values, pages, blocks, returned, out, at, f);
@@ -218,9 +218,9 @@ pub fn answer_line(
     out: &mut [u8; 262144],
     at: usize,
 ) -> Answered
-    requires kept_in { KeptIn w sequences values pages blocks }
+    requires kept_in { KeptIn w sequences.old values.old pages.old blocks.old }
     requires at_bound { at ≤ 65536 }
-    ensures { AnswersBy (λ k. said_line k (gathered line.now length)) w (lent_mut sequences) (lent_mut values) (lent_mut pages) (lent_mut blocks) out at result }
+    ensures { AnswersBy (λ k. said_line k (gathered line.now length)) w (lent_mut sequences) (lent_mut values) (lent_mut pages) (lent_mut blocks) (lent_mut out) at result }
 {
     let parsed = parse_line(line, length);
     match parsed {

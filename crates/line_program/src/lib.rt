@@ -5,7 +5,7 @@ pub mod answer;
 pub mod notes;
 
 ghost use Rattle.std.specs.Prelude.{◌<◌, ◌≤◌, length};
-ghost use Rattle.window.specs.Lent.{left_in, lent_mut};
+ghost use Rattle.window.specs.Lent.{left_in, lent_mut, lent};
 ghost use Rattle.call_base.specs.Answers.{state_of};
 ghost use Rattle.line_program.specs.Promises.{Kept, KeptIn, LineEndsBy, TakesBy, Stops, EndsBy};
 
@@ -41,9 +41,9 @@ fn end_line(
     listed_values: &mut [u32; 4096],
     out: &mut [u8; 262144],
 ) -> Program
-    requires kept_in { KeptIn p.window sequences values pages blocks }
+    requires kept_in { KeptIn p.window sequences.old values.old pages.old blocks.old }
     requires at_bound { p.at ≤ 65536 }
-    ensures { LineEndsBy p line length from (lent_mut sequences) (lent_mut values) (lent_mut pages) (lent_mut blocks) out result }
+    ensures { LineEndsBy p (lent line) length from (lent_mut sequences) (lent_mut values) (lent_mut pages) (lent_mut blocks) (lent_mut out) result }
 {
     let window = p.window;
     let notes = p.notes;
@@ -86,11 +86,11 @@ fn take_line(
     listed_values: &mut [u32; 4096],
     out: &mut [u8; 262144],
 ) -> Program
-    requires kept_in { KeptIn p.window sequences values pages blocks }
+    requires kept_in { KeptIn p.window sequences.old values.old pages.old blocks.old }
     requires at_bound { p.at ≤ 65536 }
     requires from_in_bounds { p.from < length part.now }
     ensures from_lt_from { (p.from < result.from) × (result.from ≤ length part.now) }
-    ensures takes_by { TakesBy p part.now line (lent_mut sequences) (lent_mut values) (lent_mut pages) (lent_mut blocks) out result }
+    ensures takes_by { TakesBy p part.now (lent_mut line) (lent_mut sequences) (lent_mut values) (lent_mut pages) (lent_mut blocks) (lent_mut out) result }
     ensures kept { Kept (state_of result.window (left_in (lent_mut sequences) (lent_mut values) (lent_mut pages) (lent_mut blocks))) }
 {
     let from = p.from;
@@ -132,9 +132,9 @@ pub fn take_lines(
     listed_values: &mut [u32; 4096],
     out: &mut [u8; 262144],
 ) -> Program
-    requires kept_in { KeptIn p.window sequences values pages blocks }
+    requires kept_in { KeptIn p.window sequences.old values.old pages.old blocks.old }
     requires from_in_bounds { p.from ≤ length part.now }
-    ensures takes_by { TakesBy p part.now line (lent_mut sequences) (lent_mut values) (lent_mut pages) (lent_mut blocks) out result }
+    ensures takes_by { TakesBy p part.now (lent_mut line) (lent_mut sequences) (lent_mut values) (lent_mut pages) (lent_mut blocks) (lent_mut out) result }
     ensures stops { Stops p (length part.now) result }
     ensures kept { Kept (state_of result.window (left_in (lent_mut sequences) (lent_mut values) (lent_mut pages) (lent_mut blocks))) }
 {
@@ -173,9 +173,9 @@ pub fn take_last(
     listed_values: &mut [u32; 4096],
     out: &mut [u8; 262144],
 ) -> Program
-    requires kept_in { KeptIn p.window sequences values pages blocks }
+    requires kept_in { KeptIn p.window sequences.old values.old pages.old blocks.old }
     requires at_bound { p.at ≤ 65536 }
-    ensures { EndsBy p line (lent_mut sequences) (lent_mut values) (lent_mut pages) (lent_mut blocks) out result }
+    ensures { EndsBy p (lent line) (lent_mut sequences) (lent_mut values) (lent_mut pages) (lent_mut blocks) (lent_mut out) result }
 {
     if p.length == 0 {
         return p;

@@ -40,16 +40,16 @@ pub record Written (r : Run) (p : Program) (out : List ℕ) (s : Run) : Type 0 w
 
 -- lines of the part that r stands in were answered, which left the program p, and its output written
 pub record TakesAndWrites (r : Run) (p : Program) (input line sequences values pages blocks out : Lent) (s : Run) : Type 0 where
-  pub takes : TakesBy r.program (take r.n input.exit.now) line sequences values pages blocks out p
+  pub takes : TakesBy r.program (take r.n input.exit) line sequences values pages blocks out p
   pub stops : Stops r.program r.n p
-  pub written : Written r p out.exit.now s
+  pub written : Written r p out.exit s
 
 -- a turn: `filled` is the run once a part is there; if no turns are left, it stays, and so do the line and the memory; otherwise lines of
 -- the part are answered
 pub record Turned (r : Run) (input line sequences values pages blocks out : Lent) (s : Run) : Type 0 where
   pub filled : Run
-  pub refilled : Refilled r input.entry.now filled input.exit.now
+  pub refilled : Refilled r input.entry filled input.exit
   pub rests : filled.turns ≡ 0 → s ≡ filled
-  pub line_stays : filled.turns ≡ 0 → line.exit.now ≡ line.entry.now
+  pub line_stays : filled.turns ≡ 0 → line.exit ≡ line.entry
   pub memory_stays : filled.turns ≡ 0 → left_in sequences values pages blocks ≡ found_in sequences values pages blocks
   pub answers : 0 < filled.turns → (p : Program) × TakesAndWrites filled p input line sequences values pages blocks out s

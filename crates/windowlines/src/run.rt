@@ -1,7 +1,7 @@
 // Bytes moved: from standard input to the line program, and its output to standard output.
 ghost use Rattle.std.specs.Prelude.{◌≡◌, true, false, cond, ◌-◌, ◌≤◌, ◌<◌, length, take};
 ghost use Rattle.window.specs.Memory.{memory};
-ghost use Rattle.window.specs.Lent.{left_in, lent_mut};
+ghost use Rattle.window.specs.Lent.{left_in, lent_mut, lent};
 ghost use Rattle.call_base.specs.Answers.{state_of};
 ghost use Rattle.line_program.specs.Promises.{Kept, KeptIn, TakesBy, Stops, EndsBy};
 ghost use Rattle.windowlines.specs.Run.{Going, Refilled, Written, Turned};
@@ -90,10 +90,10 @@ fn take_part(
     listed_values: &mut [u32; 4096],
     out: &mut [u8; 262144],
 ) -> Program
-    requires kept_in { KeptIn r.program.window sequences values pages blocks }
+    requires kept_in { KeptIn r.program.window sequences.old values.old pages.old blocks.old }
     requires n_in_bounds { r.n ≤ length input.now }
     requires from_le_n { r.program.from ≤ r.n }
-    ensures takes_by { TakesBy r.program (take r.n input.now) line (lent_mut sequences) (lent_mut values) (lent_mut pages) (lent_mut blocks) out result }
+    ensures takes_by { TakesBy r.program (take r.n input.now) (lent_mut line) (lent_mut sequences) (lent_mut values) (lent_mut pages) (lent_mut blocks) (lent_mut out) result }
     ensures stops { Stops r.program r.n result }
     ensures kept { Kept (state_of result.window (left_in (lent_mut sequences) (lent_mut values) (lent_mut pages) (lent_mut blocks))) }
 {
@@ -132,7 +132,7 @@ pub fn turn(
     requires { Going r (memory sequences.old values.old pages.old blocks.old) }
     ensures going { Going result (left_in (lent_mut sequences) (lent_mut values) (lent_mut pages) (lent_mut blocks)) }
     ensures turns_lt_turns { 0 < r.turns → result.turns < r.turns }
-    ensures turned { Turned r input line sequences values pages blocks out result }
+    ensures turned { Turned r (lent_mut input) (lent_mut line) (lent_mut sequences) (lent_mut values) (lent_mut pages) (lent_mut blocks) (lent_mut out) result }
 {
     let run = refill(rt, r, input);
     if run.turns == 0 {
@@ -170,7 +170,7 @@ pub fn finish(
 ) -> Program
     requires { Going r (memory sequences.old values.old pages.old blocks.old) }
     ensures value { r.failed ≡ true → result ≡ r.program }
-    ensures ends_by { r.failed ≡ false → EndsBy r.program line (lent_mut sequences) (lent_mut values) (lent_mut pages) (lent_mut blocks) out result }
+    ensures ends_by { r.failed ≡ false → EndsBy r.program (lent line) (lent_mut sequences) (lent_mut values) (lent_mut pages) (lent_mut blocks) (lent_mut out) result }
 {
     let program = r.program;
     if r.failed {
