@@ -1,26 +1,20 @@
 -- A line's answer, by what it asks for: what was done and put is what the definition says. Assumes nothing.
-use Rattle.std.proofs.Common.{◌≡◌, ℕ, zero, suc, ◌+◌, ◌*◌, ◌<◌, ◌≤◌, Bool, true, false, ltb, leb, List, [], length, take, sym, refl, ap, ◌∙◌, subst, true≢false, arith, le-ltb, lt-ltb, le-leb}
+use Rattle.std.proofs.Common.{◌≡◌, ℕ, zero, suc, ◌+◌, ◌*◌, ◌<◌, ◌≤◌, Bool, true, false, leb, List, [], length, take, sym, refl, ap, ◌∙◌, subst, true≢false, arith, le-ltb, lt-ltb, le-leb}
 use mathlib.Core.Option.{Option, none, some}
-use native.Mathlib.Decide.{ℕ_discrete}
 use lib.Seq.{take-nil}
 use Rattle.window.specs.declared.AdaptiveReceiverPacketWindow.{AdaptiveReceiverPacketWindow}
-use Rattle.window.specs.declared.Created.{Created}
-use Rattle.window.specs.declared.Created.TheVariants.{New, Refused}
-use Rattle.window.specs.declared.refusals.Refusal.{Refusal}
-use Rattle.window.specs.declared.answers.Answer.TheVariants as code
 use Rattle.window.specs.declared.answers.Step.{Step}
-use Rattle.window.specs.Memory.{Memory, capacity, page_count_of, block_count_of, words_per_page, words_per_block}
-use Rattle.window.specs.Refusals.{limits, long_enough_of, LongEnough, refusal_number_of}
+use Rattle.window.specs.Memory.{Memory, capacity, page_count_of}
+use Rattle.window.specs.Refusals.{limits, LongEnough}
 use Rattle.window.specs.New as new
 use Rattle.window.specs.New.{new_of, short_memory}
 use Rattle.window.proofs.MemoryLaws.{capacity-least, capacity-pages}
 use Rattle.window.proofs.RefusalLaws.{within-limits, is-long-enough, fits-is}
-use Rattle.model.specs.Calls.{Call, Answer, done, refused}
+use Rattle.model.specs.Calls.{Call, done, refused}
 use Rattle.model.specs.Roles.{role_of}
 use Rattle.model.specs.Window.{Window, live_pairs_of}
 use Rattle.model.specs.Steps.{Effect, window_step}
-use Rattle.model.specs.Contract.{State, window_of, lengths_fit, Meets}
-use Rattle.model.specs.Sound.{SoundWithPoint}
+use Rattle.model.specs.Contract.{State, window_of}
 use Rattle.model.specs.Heads.{Began}
 use Rattle.model.proofs.NewLaws.{began-accepted}
 use Rattle.page_base.proofs.DecodeLaws.{header_at}

@@ -7,7 +7,7 @@ use Rattle.line_text.specs.Lines.{fields_of_letter, among}
 use Rattle.line_text.specs.Promises.{said_by}
 use Rattle.model.specs.Calls.{Call}
 use Rattle.model.specs.Window.{Window, size_of}
-use Rattle.line_calls.specs.Calls.{Command, create, listing, call_of, called, command_of}
+use Rattle.line_calls.specs.Calls.{create, listing, call_of, called, command_of}
 use Rattle.line_program.specs.Program.{unknown_line, new_line, list_line, command_line}
 
 module _ (f : Fields) where

@@ -1,9 +1,7 @@
 -- The input in parts: the bytes of a line that have come, the line that they make, and the lines that end in a part. Assumes nothing.
-use Rattle.std.proofs.Common.{◌≡◌, ℕ, zero, suc, ◌+◌, ◌-◌, ◌<◌, ◌≤◌, true, false, ltb, List, [], ◌∷◌, ◌++◌, length, get_or, take, drop, sym, refl, ap, ◌∙◌, subst, append_assoc, append-nil, arith, length-append, length-drop, get_or-drop, take-suc, drop-drop, take-add, ltb-false, ltb-true, le-ltb, lt-ltb}
-use mathlib.Core.Option.{none}
+use Rattle.std.proofs.Common.{◌≡◌, ℕ, suc, ◌+◌, ◌-◌, ◌<◌, ◌≤◌, ltb, List, [], ◌∷◌, ◌++◌, length, get_or, take, drop, sym, refl, ap, ◌∙◌, subst, append_assoc, append-nil, arith, length-append, length-drop, get_or-drop, take-suc, drop-drop, take-add, ltb-false, ltb-true, le-ltb, lt-ltb}
 use Rattle.words.proofs.CaseLaws.{bool}
-use Rattle.line_text.specs.Lines.{Line, line_of, parts, ended, waiting}
-use Rattle.line_text.specs.PrintContracts.{Puts}
+use Rattle.line_text.specs.Lines.{line_of, parts, ended, waiting}
 use Rattle.line_text.specs.Promises.{NextByte, Appends}
 use Rattle.line_text.proofs.PartLaws.{no_bytes, sliced, goes_on, ends-part, parts-ended, parts-waiting}
 use Rattle.line_text.proofs.LongLaws.{long-line}

@@ -1,5 +1,5 @@
 -- What is kept between lines: the window in it, what a call and what n leave of it. Assumes nothing.
-use Rattle.std.proofs.Common.{◌≡◌, ℕ, zero, suc, ◌+◌, ◌-◌, ◌*◌, ◌<◌, ◌≤◌, true, false, cond, ltb, List, [], length, get_or, take, drop, replicate, sym, refl, ap, ◌∙◌, subst, arith, get_or-drop, ltb-false}
+use Rattle.std.proofs.Common.{◌≡◌, ℕ, zero, suc, ◌+◌, ◌-◌, ◌*◌, ◌≤◌, true, cond, ltb, List, get_or, drop, replicate, sym, refl, ap, ◌∙◌, subst, arith, get_or-drop, ltb-false}
 use lib.ListN.{length-replicate}
 use lib.Seq.{drop-append_seam}
 use Rattle.words.proofs.CaseLaws.{bool}
@@ -8,12 +8,12 @@ use Rattle.window.specs.Memory.{Memory, memory, capacity, page_count_of, block_c
 use Rattle.window.proofs.MemoryLaws.{capacity-pages}
 use Rattle.window.specs.New.{fresh, cleared}
 use Rattle.model.specs.Calls.{Call}
-use Rattle.model.specs.Window.{Page, Block, Window, size_of, page_at, block_at, decode, cells_at, empty_page, fresh_window}
+use Rattle.model.specs.Window.{Window, page_at, block_at, decode, cells_at, fresh_window}
 use Rattle.model.specs.Steps.{window_step}
 use Rattle.model.specs.Sound.{SoundWithPoint}
 use Rattle.model.specs.Contract.{State, window_of, Left, lengths_fit, SamePast, Does, Meets}
 use Rattle.model.specs.Heads.{Began}
-use Rattle.model.proofs.NewLaws.{new-window, began-accepted, began-sound, began-fits}
+use Rattle.model.proofs.NewLaws.{new-window, began-sound, began-fits}
 use Rattle.page_base.proofs.DecodeLaws.{header_at}
 use Rattle.laws_soundness.specs.Change.{Sizes, sizes_of}
 use Rattle.laws_soundness.proofs.ProperLaws.{proper-decode}

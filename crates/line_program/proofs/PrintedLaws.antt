@@ -1,5 +1,5 @@
 -- Every line prints a byte at least, and the first stands where the line was put. Assumes nothing.
-use Rattle.std.proofs.Common.{◌≡◌, ℕ, zero, suc, ◌+◌, ◌<◌, ◌≤◌, Bool, true, false, cond, ltb, List, [], ◌∷◌, ◌++◌, length, get_or, take, sym, ap, ◌∙◌, arith, length-take-le, get_or-take, get_or-append-add}
+use Rattle.std.proofs.Common.{◌≡◌, ℕ, zero, suc, ◌+◌, ◌<◌, ◌≤◌, Bool, true, false, cond, ltb, List, ◌++◌, length, get_or, take, sym, ap, ◌∙◌, arith, length-take-le, get_or-take, get_or-append-add}
 use mathlib.Core.Option.{Option, none, some}
 use Rattle.window.specs.Refusals.{limits}
 use Rattle.line_text.specs.Lines.{Line, line_of}
@@ -7,7 +7,7 @@ use Rattle.line_text.specs.PrintContracts.{Puts}
 use Rattle.model.specs.Window.{Window, size_of}
 use Rattle.model.specs.Calls.{Call}
 use Rattle.line_calls.specs.Calls.{Command, create, listing, make, nothing, command_of}
-use Rattle.line_program.specs.Program.{Printed, with_new, unknown_line, new_or, new_line, call_line, list_line, on_window, command_line, said_line, line_does}
+use Rattle.line_program.specs.Program.{Printed, with_new, unknown_line, new_or, new_line, call_line, list_line, command_line, said_line, line_does}
 
 abbrev Some : Printed → Type 0
 Some p = 0 < length p.bytes

@@ -1,5 +1,5 @@
 -- What the line program prints for its input. Document 01, 'The line program'. Definitions only. Assumes nothing.
-use Rattle.std.specs.Prelude.{ℕ, zero, suc, Bool, cond, List, [], ◌∷◌, ◌++◌, nat_lt}
+use Rattle.std.specs.Prelude.{ℕ, zero, suc, cond, List, [], ◌∷◌, ◌++◌, nat_lt}
 use Rattle.std.proofs.Math.Option.{Option, none, some}
 use Rattle.window.specs.Refusals.{limits}
 use Rattle.window.specs.New.{fresh}

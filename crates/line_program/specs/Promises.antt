@@ -1,7 +1,6 @@
 -- What the functions of the line program leave. Definitions only. Assumes nothing.
-use Rattle.std.specs.Prelude.{◌≡◌, ℕ, ◌+◌, ◌-◌, ◌<◌, ◌≤◌, true, cond, List, [], ◌∷◌, ◌++◌, length, take, nat_lt, slice_index, slice_range}
+use Rattle.std.specs.Prelude.{◌≡◌, ℕ, ◌+◌, ◌<◌, ◌≤◌, true, cond, List, [], ◌∷◌, ◌++◌, length, take, nat_lt, slice_index, slice_range}
 use Rattle.std.proofs.Math.Option.{Option, none}
-use Rattle.std.specs.Borrow.{Bor}
 use Rattle.line_text.specs.Lines.{Line, line_of, parts, ended, waiting}
 use Rattle.line_text.specs.PrintContracts.{Puts}
 use Rattle.window.specs.declared.AdaptiveReceiverPacketWindow.{AdaptiveReceiverPacketWindow}
