@@ -256,7 +256,7 @@ BROKEN = [
     ('a law of another file', 'stranger-tells (model/proofs/StrangerLaws.antt)', 'stranger-tells (model/proofs/UnitLaws.antt)'),
     ('an edit that is not there', 'block_mark_not_tested', 'block_mark_not_looked_at'),
     ('a state that is none', '| told |', '| said |'),
-    ('an open row that cites more', '| request S-8 | open |', '| releaseStep | open |'),
+    ('an open row that cites more', '| request S-8 | open |', '| release_step | open |'),
 ]
 
 

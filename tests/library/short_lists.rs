@@ -2,7 +2,7 @@
 //!
 //! For each range of 1 to 6 sequences, from three firsts, of which one makes it wrap: every list of up to 4 words, each a sequence of
 //! the range, the one before it or the one after it, with and without its top bit. It is read or refused 12 as the definition says
-//! (crates/model/specs/Losses.antt, isLossList: it is the writer's list for the sequences that it names), and 11 comes before.
+//! (crates/model/specs/Losses.antt, is_loss_list_of: it is the writer's list for the sequences that it names), and 11 comes before.
 //! The lists that are taken are those of all sets of losses, each once.
 
 use crate::calls::Random;

@@ -1,2 +1,2 @@
--- The acknowledge point: what the functions promise (Contracts).
+-- The acknowledge point: what the functions promise (Promises).
 pub mod Promises

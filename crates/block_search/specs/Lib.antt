@@ -1,3 +1,3 @@
--- Searches by the masks: what they look for (Search), and what the walk promises (Contracts).
+-- Searches by the masks: what they look for (Search), and what the walk promises (Promises).
 pub mod Search
 pub mod Promises

@@ -1,2 +1,2 @@
--- The contracts of the two calls in numbers (Contracts).
+-- The contracts of the two calls in numbers (Promises).
 pub mod Promises

@@ -1,3 +1,3 @@
--- One page: definitions (Page), and what the functions promise (Contracts).
+-- One page: definitions (Page), and what the functions promise (Promises).
 pub mod Page
 pub mod Promises

@@ -1,3 +1,3 @@
--- An insert into a page: what its steps give (Insert), and what the functions promise (Contracts).
+-- An insert into a page: what its steps give (Insert), and what the functions promise (Promises).
 pub mod Insert
 pub mod Promises

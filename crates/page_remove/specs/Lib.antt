@@ -1,3 +1,3 @@
--- A removal from a page: definitions (Remove), and what the functions promise (Contracts).
+-- A removal from a page: definitions (Remove), and what the functions promise (Promises).
 pub mod Remove
 pub mod Promises
