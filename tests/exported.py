@@ -48,19 +48,19 @@ NEW = [('window', 'new', 'NewBy', 'window', 'New'), ('c_calls', 'packet_window_n
 TEXT = {'line_text': ['parse'], 'line_calls': ['call', 'live_pairs'], 'line_faults': ['fault_of'], 'line_output': ['put_line', 'put_list', 'put_unknown'],
         'line_program': ['answer_line', 'take_lines', 'take_last', 'note']}
 # the functions there that ask for what the line program keeps between lines: every `requires` and `ensures`, word for word
-KEPT = 'KeptIn {} sequences values pages blocks'
+KEPT = 'KeptIn {} sequences.old values.old pages.old blocks.old'
 LENT = ' '.join(f'(lent_mut {name})' for name in LISTS)
 KEEPS = {
     ('line_program', 'answer_line'): (
         [KEPT.format('w'), 'at ≤ 65536'],
-        [f'AnswersBy (λ k. said_line k (gathered line.now length)) w {LENT} out at result']),
+        [f'AnswersBy (λ k. said_line k (gathered line.now length)) w {LENT} (lent_mut out) at result']),
     ('line_program', 'take_lines'): (
         [KEPT.format('p.window'), 'p.from ≤ length part.now'],
-        [f'TakesBy p part.now line {LENT} out result', 'Stops p (length part.now) result',
+        [f'TakesBy p part.now (lent_mut line) {LENT} (lent_mut out) result', 'Stops p (length part.now) result',
          f'Kept (state_of result.window (left_in {LENT}))']),
     ('line_program', 'take_last'): (
         [KEPT.format('p.window'), 'p.at ≤ 65536'],
-        [f'EndsBy p line {LENT} out result']),
+        [f'EndsBy p (lent line) {LENT} (lent_mut out) result']),
 }
 # where the order of refusals is computed, at `order`
 EXAMPLES = 'crates/model/proofs/Examples.antt'
@@ -75,8 +75,8 @@ DEFINED = {
         'MeetsBy c w ss vs pages blocks r = Meets c (state_of w (found_in ss vs pages blocks)) [] (left_of r (left_in ss vs pages blocks) [])',
         '    Meets (c (nat_le 384 (length l.entry))) (state_of w (found_in ss vs pages blocks)) l.entry (left_of r (left_in ss vs pages blocks) l.exit)'],
     'crates/line_program/specs/Promises.antt': [
-        'KeptIn w s v p b = Kept (state_of w (memory s.now v.now p.now b.now))',
-        '    × Answers (p (kept_of (state_of w (found_in ss vs pages blocks)))) (state_of r.window (left_in ss vs pages blocks)) at out.entry.now r.at out.exit.now',
+        'KeptIn w s v p b = Kept (state_of w (memory s v p b))',
+        '    × Answers (p (kept_of (state_of w (found_in ss vs pages blocks)))) (state_of r.window (left_in ss vs pages blocks)) at out.entry r.at out.exit',
         "  pub answers : Answers (lines_do (kept_of u) (ended (parts 10 (b ++ taken)))) u' at out r.at out'",
         "  pub waits : Holds line' r.length (waiting (parts 10 (b ++ taken)))",
         '  pub notes : r.notes ≡ noted_lines (kept_of u) n (ended (parts 10 (b ++ taken)))'],
