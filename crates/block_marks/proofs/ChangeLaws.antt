@@ -1,7 +1,7 @@
 -- What each change of the header and of a block's words gives, over plain variables. Assumes nothing.
 use Rattle.std.proofs.Common.{◌≡◌, ℕ, ◌+◌, ◌-◌, ◌/◌, ◌%◌, ◌^◌, Bool, true, false, not, eqb, sym, refl, ap, ◌∙◌, mod-eq_of_lt, eq-eqb, ne_eqb}
 use native.Mathlib.Decide.{ℕ_discrete}
-use Rattle.words.specs.Word.{is_set, with_bit, clear_bit}
+use Rattle.words.specs.Word.{is_set, with_bit, set_bit, clear_bit}
 use Rattle.window.specs.declared.AdaptiveReceiverPacketWindow.{AdaptiveReceiverPacketWindow}
 use Rattle.window.specs.declared.Cause.{Cause}
 use Rattle.window.specs.declared.Cause.TheVariants.{Single, Range}
@@ -64,6 +64,17 @@ module _ (h : AdaptiveReceiverPacketWindow) (x : BlockWords) where
         v.pages (upd v.blocks (g / 64) (set_nonempty (sym f i) word)));
   }
 
+  -- the same of what the code finds
+  pub notes_empty : (g : ℕ) (holds : Bool) (y : BlockWords) (summary : ℕ)
+      → y ≡ with_nonempty x (with_bit x.nonempty (g % 64) (one holds)) → y.nonempty ≡ 0 → summary ≡ clear_bit h.nonempty_summary (g / 64)
+      → Notes h x g holds (change (set_summary h summary) y)
+  notes_empty g holds y summary p z q = notes g holds true y summary p (eq-eqb y.nonempty 0 z) q
+
+  pub notes_some : (g : ℕ) (holds : Bool) (y : BlockWords) (summary : ℕ)
+      → y ≡ with_nonempty x (with_bit x.nonempty (g % 64) (one holds)) → (y.nonempty ≡ 0 → ⊥) → summary ≡ set_bit h.nonempty_summary (g / 64)
+      → Notes h x g holds (change (set_summary h summary) y)
+  notes_some g holds y summary p z q = notes g holds false y summary p (ne_eqb y.nonempty 0 z) q
+
   -- ---- a block's mark
   pub splits : (b retired_blocks : ℕ) → is_set h.retired_blocks b ≡ true → retired_blocks ≡ clear_bit h.retired_blocks b
       → Changes (λ (v : Window). split_block v b) h x b (change (set_retired_blocks h retired_blocks) (with_retired x x.nonempty))
@@ -110,3 +121,6 @@ module _ (h : AdaptiveReceiverPacketWindow) where
     gives = λ v e.
         rw (ap (λ (u : AdaptiveReceiverPacketWindow). eqb u.retired_held 0) e ∙ t) (λ i. with_header v (sym e i));
   }
+
+-- what the tactics know of a page noted
+pub ruleset noting = (notes_empty, notes_some)

@@ -53,6 +53,7 @@ pub fn put_block_words(blocks: &mut [u64], block: usize, words: BlockWords)
 }
 
 // Page `page` holds a value now, or none: its bit in the block's nonempty word, and the block's bit in the summary.
+#[tactic(auto, using(crate::proofs::ChangeLaws::noting))]
 pub fn note_page(w: AdaptiveReceiverPacketWindow, b: BlockWords, page: usize, holds: bool) -> Change
     requires { page < 1024 }
     ensures { Notes w b page holds result }

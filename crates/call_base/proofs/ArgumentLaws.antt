@@ -1,41 +1,14 @@
 -- The arguments of a call, tested: over plain variables. Assumes nothing.
-use Rattle.std.proofs.Common.{◌≡◌, ℕ, ◌<◌, ◌≤◌, Bool, true, false, ◌&&◌, leb, sym, ap, ◌∙◌, le-leb}
-use borrow.Author.Tests.{lt-leb}
+use Rattle.std.proofs.Common.{◌≡◌, ℕ, Bool, true, false, ◌&&◌, sym, ap, ◌∙◌}
 use Rattle.window.specs.Refusals.{is_wire_number_of}
-use Rattle.model.specs.Table.{range_count_of, Known, first, limit_refusal_of, are_wire_numbers_of, refused_for_of}
+use Rattle.model.specs.Table.{Known, first, limit_refusal_of, are_wire_numbers_of, refused_for_of}
 use Rattle.call_base.specs.declared.admits.Arguments.{Arguments}
-use Rattle.call_base.specs.declared.admits.Arguments.TheVariants.{Nothing, Sequence, Range, Number, Base}
+use Rattle.call_base.specs.declared.admits.Arguments.TheVariants.{Sequence, Range}
 use Rattle.call_base.specs.Admits.{arguments_of}
 
 -- what the arguments a are refused with for a limit, tested on k
 abbrev asked : Known → Arguments → ℕ
 asked k a = limit_refusal_of k (arguments_of a)
-
--- no limit on nothing, and none on a sequence
-pub nothing-taken : (k : Known) (a : Arguments) → a ≡ Nothing → 0 ≡ limit_refusal_of k (arguments_of a)
-nothing-taken k a e = ap (asked k) (sym e)
-
-pub sequence-taken : (k : Known) (a : Arguments) (s : ℕ) → a ≡ Sequence s → 0 ≡ limit_refusal_of k (arguments_of a)
-sequence-taken k a s e = ap (asked k) (sym e)
-
-pub range-refused : (k : Known) (a : Arguments) (x y n : ℕ) → a ≡ Range x y → n ≡ range_count_of x y → k.size < n → 5 ≡ limit_refusal_of k (arguments_of a)
-range-refused k a x y n e c l = sym (ap (λ (t : Bool). first 5 t 0) (ap (λ (j : ℕ). leb j k.size) (sym c) ∙ lt-leb n k.size l)) ∙ ap (asked k) (sym e)
-
-pub range-taken : (k : Known) (a : Arguments) (x y n : ℕ) → a ≡ Range x y → n ≡ range_count_of x y → n ≤ k.size → 0 ≡ limit_refusal_of k (arguments_of a)
-range-taken k a x y n e c l = sym (ap (λ (t : Bool). first 5 t 0) (ap (λ (j : ℕ). leb j k.size) (sym c) ∙ le-leb n k.size l)) ∙ ap (asked k) (sym e)
-
-pub number-refused : (k : Known) (a : Arguments) (n : ℕ) → a ≡ Number n → 256 < n → 8 ≡ limit_refusal_of k (arguments_of a)
-number-refused k a n e l = sym (ap (λ (t : Bool). first 8 t 0) (lt-leb n 256 l)) ∙ ap (asked k) (sym e)
-
-pub number-taken : (k : Known) (a : Arguments) (n : ℕ) → a ≡ Number n → n ≤ 256 → 0 ≡ limit_refusal_of k (arguments_of a)
-number-taken k a n e l = sym (ap (λ (t : Bool). first 8 t 0) (le-leb n 256 l)) ∙ ap (asked k) (sym e)
-
--- r says whether the base is a wire number
-pub base-refused : (k : Known) (a : Arguments) (s : ℕ) (r : Bool) → a ≡ Base s → r ≡ is_wire_number_of s → r ≡ false → 9 ≡ limit_refusal_of k (arguments_of a)
-base-refused k a s r e i f = sym (ap (λ (t : Bool). first 9 t 0) (sym i ∙ f)) ∙ ap (asked k) (sym e)
-
-pub base-taken : (k : Known) (a : Arguments) (s : ℕ) (r : Bool) → a ≡ Base s → r ≡ is_wire_number_of s → r ≡ true → 0 ≡ limit_refusal_of k (arguments_of a)
-base-taken k a s r e i f = sym (ap (λ (t : Bool). first 9 t 0) (sym i ∙ f)) ∙ ap (asked k) (sym e)
 
 -- ---- wire numbers
 

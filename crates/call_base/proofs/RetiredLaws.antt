@@ -46,3 +46,6 @@ pub reached-by : (v : Window) → Sound v → (h : AdaptiveReceiverPacketWindow)
 reached-by v ok h e blocks g f l = bool (eqb h.retired_held 0)
     (λ y. rw y (none-retired v ok (ap (λ (k : AdaptiveReceiverPacketWindow). k.retired_held) e ∙ eqb-true h.retired_held 0 y) g l))
     (λ y. rw y (reached v g _ (block_words_at blocks (g / 64)) f (ap (λ (k : AdaptiveReceiverPacketWindow). page_retired_of k.retired_blocks (block_words_at blocks (g / 64)) g) (sym e))))
+
+-- what the tactics know of a mark: it is 0 or 1
+pub ruleset marks = (retired-lt)

@@ -46,6 +46,7 @@ pub fn read_answer(read: Read) -> Answer
 }
 
 // Whether values of a page are reachable: 1 or 0. Always, unless some retired value is held.
+#[tactic(auto, using(crate::proofs::RetiredLaws::marks))]
 pub fn reachable(w: AdaptiveReceiverPacketWindow, blocks: &[u64], page: usize) -> u64
     requires { (page < 1024) × RowIn words_per_block (page / 64) blocks.now }
     ensures { Reachable w blocks.now page result }

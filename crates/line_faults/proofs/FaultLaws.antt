@@ -8,14 +8,13 @@ use Prim.Native.Nat.{ℕ, suc, ◌+◌, ◌≤◌, ◌<◌}
 use native.Mathlib.Numerals.{add-one}
 use native.Mathlib.Omega.{arith}
 use lib.Dec.{eqb}
-use lib.ListN.{length, get_or, take, drop}
+use lib.ListN.{length, get_or, drop}
 use lib.Seq.{drop-cons, drop-length}
 use borrow.Author.Tests.{eq-eqb, ne_eqb, lt-ltb, le-ltb}
-use Rattle.line_text.specs.Lines.{line, among, fields_of_letter, line_of}
-use Rattle.line_text.specs.Promises.{count_or4, field_count_of}
+use Rattle.line_text.specs.Lines.{fields_of_letter, line_of}
+use Rattle.line_text.specs.Promises.{count_or4}
 use Rattle.line_text.proofs.LineLaws.{unknown}
-use Rattle.line_faults.specs.declared.Fault.{Fault}
-use Rattle.line_faults.specs.declared.Fault.TheVariants.{CarriageReturn, Space, Letter, FieldCount, WindowSize, NoWindow}
+use Rattle.line_faults.specs.declared.Fault.TheVariants.{CarriageReturn, Space, Letter, FieldCount}
 use Rattle.line_faults.specs.Faults.{occurrences, letter_count_of, fault_of_parsed, fault_of_fields, fault_of_text}
 
 -- with one byte before the others
@@ -72,22 +71,6 @@ unfolding letter_count_of
 letter-tab [] z o e = absurd (z refl)
 letter-tab (b ∷ []) z o e = absurd (o refl)
 letter-tab (b ∷ c ∷ bs) z o e = rw (eq-eqb c 9 e) refl
-
--- a line that is a call, its three numbers those of the parser
-module _ (b m n d : ℕ) where
-  abbrev of_numbers : Fault
-  of_numbers = fault_of_parsed (some (line b (take (field_count_of b) (m ∷ n ∷ d ∷ []))))
-
-  pub other-call : (b ≡ 110 → ⊥) → NoWindow ≡ of_numbers
-  other-call e = rw (ne_eqb b 110 e) refl
-
-  pub larger : b ≡ 110 → 4096 < m → WindowSize ≡ of_numbers
-  unfolding fields_of_letter among
-  larger e l = rw (e, lt-ltb 4096 m l) refl
-
-  pub not-larger : b ≡ 110 → m ≤ 4096 → NoWindow ≡ of_numbers
-  unfolding fields_of_letter among
-  not-larger e l = rw (e, le-ltb 4096 m l) refl
 
 -- a line's bytes: the first fault that applies
 pub carriage-return : (bs : List ℕ) → 0 < occurrences 13 bs → CarriageReturn ≡ fault_of_text bs

@@ -61,6 +61,7 @@ fn letter_count(line: &[u8]) -> usize
 }
 
 // Of a line whose letter has its count of fields.
+#[tactic(auto, unfolding(line_text::specs::Lines::fields_of_letter, line_text::specs::Lines::among))]
 fn fault_of_call(line: &[u8]) -> Fault
     ensures { result ≡ fault_of_parsed (line_of line.now) }
 {

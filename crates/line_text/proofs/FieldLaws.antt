@@ -86,3 +86,6 @@ module _ (bs : List ℕ) (n i : ℕ) (h : i < length bs) where
 pub ends : (bs : List ℕ) (n i : ℕ) → n ≤ 4294967295 → i ≡ length bs → rest_of n (drop i bs) ≡ some n
 unfolding rest_of all_digits number_from
 ends bs n i l e = rw (e, drop-length bs, le-leb n 4294967295 l) refl
+
+-- what the tactics know of a field read
+pub ruleset reading = (empty, zero-alone, zero-leads, starts, low, high, next, over, ends)

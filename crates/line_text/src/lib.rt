@@ -51,6 +51,7 @@ fn wide(x: u8) -> u64
 }
 
 // The number that the bytes write: decimal, no leading zeros, at most 4294967295.
+#[tactic(auto, using(crate::proofs::FieldLaws::reading))]
 pub fn field(bytes: &[u8]) -> Read
     ensures { field_answer result ≡ field_of bytes.now }
 {

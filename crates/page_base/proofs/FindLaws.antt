@@ -9,7 +9,7 @@ use lib.ListN.{get_or}
 use borrow.Author.Tests.{eq-eqb, ne_eqb, eqb-true, lt-ltb, le-ltb}
 use Rattle.words.proofs.CaseLaws.{bool, both}
 use Rattle.words.specs.First.{first_from_of}
-use Rattle.words.proofs.FirstLaws.{first-is, first-eq}
+use Rattle.words.proofs.FirstLaws.{first-is}
 use Rattle.words.specs.Word.{bit_at, is_set}
 use Rattle.words.proofs.BitLaws.{bit-lt}
 use Rattle.model.specs.Window.{Page, cell_of}
@@ -33,14 +33,20 @@ module _ (ss : List ℕ) (filled j : ℕ) where
   unfolding is_at
   at_other c l e = rw (cell_in ss c l, ne_eqb (get_or ss c 0 % 64) j e) (bool (is_set filled c) (λ q. rw q) (λ q. rw q))
 
-  -- the first of the first n
-  pub found_at : (n c : ℕ) → c < n → ((k : ℕ) → k < c → is_at ss filled j k ≡ false) → is_at ss filled j c ≡ true → c ≡ first_from_of (is_at ss filled j) n 0
-  found_at n c l before here =
-      first-eq (is_at ss filled j) n 0 c (record { from = omega arith; top = omega arith; held = λ m. here; none = λ k a m. before k m })
+  -- the first of the first n: it holds the position if it is one of them, and no cell before it does
+  pub first_cell : (n : ℕ) → n ≤ 64
+      → (first_from_of (is_at ss filled j) n 0 ≤ n)
+      × (first_from_of (is_at ss filled j) n 0 < n → is_at ss filled j (first_from_of (is_at ss filled j) n 0) ≡ true)
+      × ((k : ℕ) → k < first_from_of (is_at ss filled j) n 0 → bit_at filled k ≡ 1 → get_or ss k 0 % 64 ≡ j → ⊥)
+  first_cell n l =
+      let f = first-is (is_at ss filled j) n 0 in (
+        omega (arith, f.top),
+        λ h. f.held (omega arith),
+        λ k h u e. true≢false (sym (at-yes k (omega (arith, f.top)) u e) ∙ f.none k (omega arith) h),
+      )
 
-  pub found_none : (n : ℕ) → ((k : ℕ) → k < n → is_at ss filled j k ≡ false) → n ≡ first_from_of (is_at ss filled j) n 0
-  found_none n before =
-      first-eq (is_at ss filled j) n 0 n (record { from = omega arith; top = omega arith; held = λ m. absurd (omega arith); none = λ k a m. before k m })
+-- what the tactics know of the search
+pub ruleset seeking = (at-free, at_other, first_cell)
 
 -- ---- the cell of a position, on a page whose values are in their places
 

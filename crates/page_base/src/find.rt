@@ -15,6 +15,7 @@ pub enum Read {
 }
 
 // The first of the first n cells that is in use and holds a sequence of position `slot`; n if there is none.
+#[tactic(auto, using(crate::proofs::FindLaws::seeking))]
 fn sparse_slot_at(sequences: &[u32], filled: u64, n: usize, slot: usize) -> usize
     requires { (length sequences.now ≡ 64) × (n < 64) }
     ensures { result ≡ first_from_of (is_at sequences.now filled slot) n 0 }

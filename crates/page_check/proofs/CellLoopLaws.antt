@@ -167,3 +167,6 @@ module _ (n cap g : ℕ) (w : PageWords) (f : ℕ → ℕ) where
       pub passed-ends : w.occupied < 2 ^ 64 → Decides (SoundCells n cap g w f) (eqb named w.occupied)
       passed-ends l = decides-same (eqb named w.occupied) (decides_eq named w.occupied) whole
           (λ ok. ext-bits 64 named w.occupied t.named-fits l (same ok))
+
+-- a bit is 0 or 1
+pub ruleset bits = (bit-lt)

@@ -34,4 +34,4 @@ pub returns-then-at-line : goal.returns-then-at-line
 returns-then-at-line c = laws.too_many _ _ _ _ _ _ c.loop-i.invariant c.loop-i-test.false c.if-at-line.true
 
 pub returns : goal.returns
-returns c = laws.says _ _ _ _ _ _ c.loop-i.invariant c.loop-i-test.false c.if-at-line.false
+returns c = laws.says _ _ _ _ _ _ c.loop-i.invariant c.loop-i-test.false (omega arith)

@@ -51,7 +51,7 @@ loop-rest-preserved c =
     Next (cells s) c.loop-rest.rest c.lowest-c.result (get_or s c.lowest-c.result 0) = next_of _ _ _ c.loop-rest.invariant.fits c.loop-rest-test.true c.lowest-c.ensures in
     rw (c.clear-rest.ensures, c.set-named.ensures)
     (passed-turn _ _ _ _ _ _ _ c.loop-rest.invariant _ _ (at)
-    (c.cell_sound.ensures.holds c.if-not-cell_sound.false) (λ e. c.if-bit-eq1.false (c.bit.ensures ∙ e)))
+    (c.cell_sound.ensures.holds c.if-not-cell_sound.false) (λ e. omega (arith, e)))
 
 pub returns : goal.returns
 returns c = passed-ends _ _ _ _ _ _ _ c.loop-rest.invariant c.loop-rest-test.false (omega arith)
