@@ -115,6 +115,7 @@ fn take_slots(
 }
 
 // The live values at the positions named by `slots` of page `page`; a page that is retired is skipped.
+#[tactic(auto, using(crate::proofs::TakeLaws::skipping))]
 pub fn remove_slots(
     w: AdaptiveReceiverPacketWindow,
     sequences: &mut [u32],

@@ -11,11 +11,6 @@ loop-c-init c =
       λ k a b. absurd (omega arith),
     )
 
-pub returns-then-sequences-c : goal.returns-then-sequences-c
-returns-then-sequences-c c =
-    let i = c.loop-c.invariant in
-    record { from = i.0; top = omega (arith, i.1, i.2); held = i.3; missed = λ l r. omega (arith, r.1, c.if-sequences-c.true) }
-
 pub loop-c-preserved : goal.loop-c-preserved
 loop-c-preserved c =
     let i = c.loop-c.invariant in
@@ -24,7 +19,7 @@ loop-c-preserved c =
       omega arith,
       omega arith,
       row_more c.args.sequences.now c.args.filled c.args.row c.args.slot j i.3
-          (used-before c.args.filled c.args.slot _ (omega arith) (omega arith) c.lowest-end.ensures j i.0 (omega arith), omega (arith, c.if-sequences-c.false)),
+          (used-before c.args.filled c.args.slot _ (omega arith) (omega arith) c.lowest-end.ensures j i.0 (omega arith), omega arith),
     )
 
 pub returns : goal.returns

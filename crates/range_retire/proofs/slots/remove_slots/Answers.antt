@@ -1,5 +1,5 @@
-use Rattle.std.proofs.Common.{length}
-use Rattle.range_retire.proofs.TakeLaws.{page-in, skips-empty, skips-retired, removes-slots}
+use Rattle.std.proofs.Common.{length, arith}
+use Rattle.range_retire.proofs.TakeLaws.{page-in, skips-empty, removes-slots}
 use Rattle.range_retire.proofs.slots.remove_slots.Goals as goal
 
 pub page_words-words-requires : goal.page_words-words-requires
@@ -19,11 +19,6 @@ page_retired-requires c =
     let i = page-in a.w a.page (length a.sequences.now) (length a.values.now) (length a.pages.now) (length a.blocks.now) c.requires.fits c.requires.page_bound.0 in
     (i.few, i.block)
 
-pub returns-then-page_retired-eq1 : goal.returns-then-page_retired-eq1
-returns-then-page_retired-eq1 c =
-    let a = c.args in
-    skips-retired a.w a.sequences.now a.values.now a.pages.now a.blocks.now a.returned.now a.page a.slots a.at c.requires.page_bound.0 _ c.page_words-words.ensures _ c.page_retired.ensures c.if-page_retired-eq1.true
-
 pub take_slots-requires : goal.take_slots-requires
 take_slots-requires c = record { fits = c.requires.fits; page_bound = c.requires.page_bound }
 
@@ -31,4 +26,4 @@ pub returns : goal.returns
 returns c =
     let a = c.args in
     removes-slots a.w a.sequences.now a.values.now a.pages.now a.blocks.now a.returned.now a.page a.slots a.at c.requires.page_bound.0 _ c.page_words-words.ensures _ c.page_retired.ensures
-    c.if-page_retired-eq1.false c.if-words-eq0.false _ _ _ c.take_slots.ensures
+    (λ e. omega (arith, e)) c.if-words-eq0.false _ _ _ c.take_slots.ensures
