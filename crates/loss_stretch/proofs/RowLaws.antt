@@ -156,3 +156,6 @@ module _ (h : AdaptiveReceiverPacketWindow) (ss pages blocks : List ℕ) where
       where
         next_row : (x : ℕ) → x ≤ end - s % 64 → (sequence_at_of first (d + x) % 64 ≡ 0 → ⊥) → s / 64 ≡ sequence_at_of first (d + x) / 64
         next_row x l other = omega (arith, e, end_after)
+
+-- what the tactics know of a row whose page is not reachable
+pub ruleset unreached = (row-unreachable)

@@ -13,6 +13,7 @@ use window::AdaptiveReceiverPacketWindow;
 use window::memory::{PAGE_SLOTS, position};
 
 // Bit j: the sequence at position j of the row of `sequence` is live.
+#[tactic(auto, using(crate::proofs::RowLaws::unreached))]
 fn live_mask(
     w: AdaptiveReceiverPacketWindow,
     sequences: &[u32],

@@ -45,7 +45,7 @@ pub returns-then-not-is_loss_list : goal.returns-then-not-is_loss_list
 returns-then-not-is_loss_list c =
     let s = c.args in
     read-wrong s.first s.last s.words.now s.w (memory s.sequences.now s.values.now s.pages.now s.blocks.now) s.lost.now c.admits-verdict.result c.admits-verdict.ensures c.in_default.in_default-own.keys2 c.range_count-count.result c.range_count-count.ensures _
-    (omega (arith, c.if-lost-count.false)) (sym c.is_loss_list.ensures ∙ c.if-not-is_loss_list.true) c.refuse-then-not-is_loss_list.ensures
+    (omega arith) (sym c.is_loss_list.ensures ∙ c.if-not-is_loss_list.true) c.refuse-then-not-is_loss_list.ensures
 
 pub put_flags-n-requires : goal.put_flags-n-requires
 put_flags-n-requires c =
@@ -59,10 +59,10 @@ put_flags-n-requires c =
       ltb-true s.first (2 ^ 31) (both (is_wire_number_of s.first) (is_wire_number_of s.last) wire).0,
       omega (arith, c.range_count-count.ensures, count-taken (known_by s.w) s.first s.last taken, fit.within.size_high),
     ) in
-    (small.0, small.1, omega (arith, c.if-lost-count.false), sym c.is_loss_list.ensures ∙ c.if-not-is_loss_list.false)
+    (small.0, small.1, omega arith, sym c.is_loss_list.ensures ∙ c.if-not-is_loss_list.false)
 
 pub returns : goal.returns
 returns c =
     let s = c.args in
     read_done s.first s.last s.words.now s.w (memory s.sequences.now s.values.now s.pages.now s.blocks.now) s.lost.now c.admits-verdict.result c.admits-verdict.ensures c.in_default.in_default-own.keys2 c.range_count-count.result c.range_count-count.ensures _ _ _
-    (omega (arith, c.if-lost-count.false)) (sym c.is_loss_list.ensures ∙ c.if-not-is_loss_list.false) c.put_flags-n.ensures c.reply.ensures
+    (omega arith) (sym c.is_loss_list.ensures ∙ c.if-not-is_loss_list.false) c.put_flags-n.ensures c.reply.ensures

@@ -7,7 +7,7 @@ use lib.ListN.{length}
 use Rattle.page_base.proofs.PartLaws.{part_length}
 use Rattle.call_base.proofs.FitLaws.{PageBounds, sequence-bounds}
 use Rattle.acknowledge.specs.Promises.{ListsLent}
-use Rattle.loss_stretch.proofs.RowLaws.{row-unreachable, row-reached}
+use Rattle.loss_stretch.proofs.RowLaws.{row-reached}
 use Rattle.loss_stretch.proofs.live_mask.Goals as goal
 
 pub reachable-requires : goal.reachable-requires
@@ -15,12 +15,6 @@ reachable-requires c =
     let page : PageBounds c.args.w.window_size (c.position-page.result / 64) = subst (λ (q : ℕ). PageBounds c.args.w.window_size (q / 64)) (sym c.position-page.ensures) (sequence-bounds c.args.w.window_size c.args.sequence) in
     let fit : ListsLent c.args.w c.args.sequences.now c.args.pages.now c.args.blocks.now = c.requires in
     (page.page-fits, omega (arith, page.block_words, fit.blocks_long))
-
-pub returns-then-reachable-eq0 : goal.returns-then-reachable-eq0
-returns-then-reachable-eq0 c =
-    let s = c.args in
-    let r = c.reachable in
-    row-unreachable s.w s.sequences.now s.pages.now s.blocks.now s.sequence c.position-page.result r.result c.position-page.ensures r.ensures c.if-reachable-eq0.true
 
 pub page_words-words-requires : goal.page_words-words-requires
 page_words-words-requires c =
@@ -47,5 +41,5 @@ pub returns : goal.returns
 returns c =
     let s = c.args in
     let r = c.reachable in
-    row-reached s.w s.sequences.now s.pages.now s.blocks.now s.sequence c.position-page.result r.result c.position-page.ensures r.ensures c.if-reachable-eq0.false _ _ _
+    row-reached s.w s.sequences.now s.pages.now s.blocks.now s.sequence c.position-page.result r.result c.position-page.ensures r.ensures (λ e. omega (arith, e)) _ _ _
     c.page_words-words.ensures c.page_cells-cells.ensures c.page_mask.ensures
