@@ -4,13 +4,11 @@ use mathlib.Core.Bool.{true, false}
 use Prim.Native.Nat.{ℕ, zero, suc}
 use lib.ListN.{length}
 use Rattle.window.specs.declared.refusals.Refusal.{Refusal}
-use Rattle.window.specs.declared.refusals.Verdict.{Verdict}
-use Rattle.window.specs.declared.refusals.Verdict.TheVariants.{Refuse}
-use Rattle.window.specs.declared.Created.TheVariants.{Refused}
+use Rattle.std.specs.Prelude.{Result, Err}
 use Rattle.window.specs.Memory.{Memory}
 use Rattle.window.specs.Refusals.{refusal_number_of, verdict_number, limits, long_enough_of}
 use Rattle.window.proofs.RefusalLaws.{refuses}
-use Rattle.window.specs.New.{NewResult, answer_of, made, refused, new_result, fresh, cleared, short_memory, unless_refused, new_of}
+use Rattle.window.specs.New.{NewResult, made, refused, new_result, fresh, cleared, short_memory, unless_refused, new_of}
 
 module _ (m : Memory) (size n d : ℕ) where
   stays : (k : ℕ) (r : NewResult) → (k ≡ 0 → ⊥) → unless_refused k m r ≡ new_result (refused k) m
@@ -18,8 +16,8 @@ module _ (m : Memory) (size n d : ℕ) where
   stays (suc k) r h = refl
 
   -- refusals 1 to 3
-  pub new-limits : (t : Verdict) (why : Refusal) → t ≡ Refuse why → verdict_number t ≡ limits size n d
-      → new_result (answer_of (Refused why)) m ≡ new_of m size n d
+  pub new-limits : (t : Result (Unit {0}) Refusal) (why : Refusal) → t ≡ Err why → verdict_number t ≡ limits size n d
+      → new_result (refused (refusal_number_of why)) m ≡ new_of m size n d
   unfolding new_of
   new-limits t why e l =
       let k : refusal_number_of why ≡ limits size n d = ap verdict_number (sym e) ∙ l in

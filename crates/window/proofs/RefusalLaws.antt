@@ -8,8 +8,7 @@ use borrow.Author.Tests.{ltb-true, ltb-false, leb-true, eqb-true, le-ltb, le-leb
 use Rattle.window.specs.declared.AdaptiveReceiverPacketWindow.{AdaptiveReceiverPacketWindow}
 use Rattle.window.specs.declared.refusals.Refusal.{Refusal}
 use Rattle.window.specs.declared.refusals.Refusal.TheVariants.{WindowSize, SparseCells, DemoteAt, Occupied, RangeCount, ShortMemory, Unsound, Budget, Base, Sequence, ShortList, LossList}
-use Rattle.window.specs.declared.refusals.Verdict.{Verdict}
-use Rattle.window.specs.declared.refusals.Verdict.TheVariants.{Refuse}
+use Rattle.std.specs.Prelude.{Result, Ok, Err, is_ok}
 use Rattle.window.specs.Refusals.{refusal_number_of, verdict_number, outside, limits, long_enough_of, fits, fits_with_list_of, is_wire_number_of, Within, LongEnough, Fits}
 
 and-true : (a b : Bool) → (a && b) ≡ true → (a ≡ true) × (b ≡ true)
@@ -20,7 +19,7 @@ or-false : (a b : Bool) → (a || b) ≡ false → (a ≡ false) × (b ≡ false
 or-false true b e = absurd (true≢false e)
 or-false false b e = (refl, e)
 
--- the number of a verdict that refuses is not 0
+-- the number of a refusal is not 0
 some_number : (why : Refusal) → 1 ≤ refusal_number_of why
 some_number WindowSize = omega arith
 some_number SparseCells = omega arith
@@ -35,8 +34,17 @@ some_number Sequence = omega arith
 some_number ShortList = omega arith
 some_number LossList = omega arith
 
-pub refuses : (t : Verdict) (why : Refusal) → t ≡ Refuse why → verdict_number t ≡ 0 → ⊥
+pub refuses : (t : Result (Unit {0}) Refusal) (why : Refusal) → t ≡ Err why → verdict_number t ≡ 0 → ⊥
 refuses t why e z = let k : refusal_number_of why ≡ 0 = ap verdict_number (sym e) ∙ z in omega (arith, some_number why)
+
+-- a test that is Ok passes, and one that is not does not
+pub passes : (t : Result (Unit {0}) Refusal) → is_ok t ≡ true → verdict_number t ≡ 0
+passes (Ok u) e = refl
+passes (Err why) e = absurd (true≢false (sym e))
+
+pub fails : (t : Result (Unit {0}) Refusal) → is_ok t ≡ false → verdict_number t ≡ 0 → ⊥
+fails (Ok u) e z = true≢false e
+fails (Err why) e z = omega (arith, some_number why)
 
 -- ---- limits
 passed : (t : Bool) (k rest : ℕ) → cond t (suc k) rest ≡ 0 → (t ≡ false) × (rest ≡ 0)

@@ -1,10 +1,9 @@
 -- Document 01 on new: "1 for window_size outside 1..65536, 2 for N outside 1..63, 3 for demote_at above N, 6 for short memory, in this
 -- order. It sets every page and block word and the header's other fields to 0 and writes nothing else."
 -- Definitions only; their laws are in NewLaws. Assumes nothing.
-use Rattle.std.specs.Prelude.{◌≡◌, cond, ℕ, zero, suc, ◌*◌, length}
+use Rattle.std.specs.Prelude.{Result, Ok, Err, ◌≡◌, cond, ℕ, zero, suc, ◌*◌, length}
 use Rattle.window.specs.declared.AdaptiveReceiverPacketWindow.{AdaptiveReceiverPacketWindow}
-use Rattle.window.specs.declared.Created.{Created}
-use Rattle.window.specs.declared.Created.TheVariants.{New, Refused}
+use Rattle.window.specs.declared.refusals.Refusal.{Refusal}
 use Rattle.window.specs.Memory.{Memory, memory, page_count_of, block_count_of, words_per_page, words_per_block, zeroed}
 use Rattle.window.specs.Refusals.{refusal_number_of, limits, long_enough_of}
 use Rattle.window.specs.Lent.{Lent, found_in, left_in}
@@ -14,9 +13,9 @@ pub data NewAnswer : Type 0 where
   made : AdaptiveReceiverPacketWindow → NewAnswer
   refused : ℕ → NewAnswer
 
-abbrev pub answer_of : Created → NewAnswer
-answer_of (New w) = made w
-answer_of (Refused why) = refused (refusal_number_of why)
+abbrev pub answer_of : Result AdaptiveReceiverPacketWindow Refusal → NewAnswer
+answer_of (Ok w) = made w
+answer_of (Err why) = refused (refusal_number_of why)
 
 -- the answer, and the lent memory after the call
 pub record NewResult : Type 0 where
@@ -67,5 +66,5 @@ new_of m size n demote_at =
     (new_result (made (fresh size n demote_at)) (cleared size m)))
 
 -- as a signature says it
-abbrev pub NewBy : (size n demote_at : ℕ) → (sequences values pages blocks : Lent) → Created → Type 0
+abbrev pub NewBy : (size n demote_at : ℕ) → (sequences values pages blocks : Lent) → Result AdaptiveReceiverPacketWindow Refusal → Type 0
 NewBy size n demote_at ss vs pages blocks r = new_result (answer_of r) (left_in ss vs pages blocks) ≡ new_of (found_in ss vs pages blocks) size n demote_at

@@ -1,12 +1,10 @@
 -- Document 01, 'Refusal by operation': the number of each refusal, with those that requests add, and when those that calls share
 -- apply.
 -- Definitions only; their laws are in RefusalLaws. Assumes nothing.
-use Rattle.std.specs.Prelude.{Bool, cond, ◌&&◌, ◌||◌, ℕ, ◌*◌, ◌^◌, ◌≤◌, eqb, ltb, leb}
+use Rattle.std.specs.Prelude.{Result, Ok, Err, Bool, cond, ◌&&◌, ◌||◌, ℕ, ◌*◌, ◌^◌, ◌≤◌, eqb, ltb, leb}
 use Rattle.window.specs.declared.AdaptiveReceiverPacketWindow.{AdaptiveReceiverPacketWindow}
 use Rattle.window.specs.declared.refusals.Refusal.{Refusal}
 use Rattle.window.specs.declared.refusals.Refusal.TheVariants.{WindowSize, SparseCells, DemoteAt, Occupied, RangeCount, ShortMemory, Unsound, Budget, Base, Sequence, ShortList, LossList}
-use Rattle.window.specs.declared.refusals.Verdict.{Verdict}
-use Rattle.window.specs.declared.refusals.Verdict.TheVariants.{Pass, Refuse}
 use Rattle.window.specs.Memory.{capacity, page_count_of, block_count_of, words_per_page, words_per_block}
 
 -- the number of each refusal
@@ -27,10 +25,10 @@ refusal_number_of Sequence = 10
 refusal_number_of ShortList = 11
 refusal_number_of LossList = 12
 
--- of a verdict: 0 if it passes
-abbrev pub verdict_number : Verdict → ℕ
-verdict_number Pass = 0
-verdict_number (Refuse why) = refusal_number_of why
+-- of a test for refusals: 0 if it passes
+abbrev pub verdict_number : Result (Unit {0}) Refusal → ℕ
+verdict_number (Ok u) = 0
+verdict_number (Err why) = refusal_number_of why
 
 -- x is not one of low..high
 abbrev pub outside : ℕ → ℕ → ℕ → Bool

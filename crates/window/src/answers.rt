@@ -2,8 +2,8 @@
 use crate::AdaptiveReceiverPacketWindow;
 use crate::refusals::Refusal;
 
-// The answers of documents 01 and 02, for every call. Pair: a sequence, its value, the cell after it and the reads of retired words.
-// Ended: done, with these reads. Released: values and units.
+// The answers of documents 01 and 02, for every call that is not refused. Pair: a sequence, its value, the cell after it and the reads
+// of retired words. Ended: done, with these reads. Released: values and units.
 #[derive(Clone, Copy)]
 pub enum Answer {
     Done,
@@ -14,13 +14,12 @@ pub enum Answer {
     Pair(u32, u32, u32, u32),
     Ended(u32),
     Released(u32, u32),
-    Refused(Refusal),
 }
 
-// An answer, and how many values the call put into its return list.
+// An answer or a refusal, and how many values the call put into its return list.
 #[derive(Clone, Copy)]
 pub struct Outcome {
-    pub answer: Answer,
+    pub answer: Result<Answer, Refusal>,
     pub count: u32,
 }
 

@@ -11,7 +11,7 @@ ghost use Rattle.window.specs.Lent.{lent_mut};
 ghost use Rattle.window.specs.New.{NewBy, fresh as fresh_of};
 
 use memory::{BLOCK_WORDS, PAGE_WORDS, block_count, clear_words, page_count};
-use refusals::{Refusal, Verdict, limits, long_enough};
+use refusals::{Refusal, limits, long_enough};
 
 #[repr(C)]
 #[derive(Clone, Copy)]
@@ -48,13 +48,6 @@ pub enum Cause {
     Range,
 }
 
-// What `new` answers.
-#[derive(Clone, Copy)]
-pub enum Created {
-    New(AdaptiveReceiverPacketWindow),
-    Refused(Refusal),
-}
-
 impl AdaptiveReceiverPacketWindow {
     pub const PAGE_SLOTS: usize = 64;
 
@@ -69,13 +62,10 @@ impl AdaptiveReceiverPacketWindow {
         window_size: u32,
         n: u32,
         demote_at: u32,
-    ) -> Created
+    ) -> Result<AdaptiveReceiverPacketWindow, Refusal>
         ensures { NewBy window_size n demote_at (lent_mut sequences) (lent_mut values) (lent_mut pages) (lent_mut blocks) result }
     {
-        let verdict = limits(window_size, n, demote_at);
-        if let Verdict::Refuse(why) = verdict {
-            return Created::Refused(why);
-        }
+        limits(window_size, n, demote_at)?;
         if !long_enough(
             window_size,
             sequences.len(),
@@ -83,11 +73,11 @@ impl AdaptiveReceiverPacketWindow {
             pages.len(),
             blocks.len(),
         ) {
-            return Created::Refused(Refusal::ShortMemory);
+            return Err(Refusal::ShortMemory);
         }
         clear_words(pages, PAGE_WORDS * page_count(window_size));
         clear_words(blocks, BLOCK_WORDS * block_count(window_size));
-        Created::New(Self::fresh(window_size, n, demote_at))
+        Ok(Self::fresh(window_size, n, demote_at))
     }
 
     // The header of an empty window.

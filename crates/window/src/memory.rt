@@ -62,9 +62,5 @@ pub fn clear_words(words: &mut [u64], n: usize)
     requires { n ≤ length words.old }
     ensures { words.new ≡ zeroed n words.old }
 {
-    let mut i: usize = 0;
-    while i < n {
-        words[i] = 0;
-        i += 1;
-    }
+    words[..n].fill(0);
 }

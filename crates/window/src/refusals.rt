@@ -1,7 +1,7 @@
 // Why a call refuses, and the tests that calls share: the limits of refusals 1 to 3, the lengths of the lent lists, refusal 6, and the
 // limit of refusals 9 and 10.
 ghost use Rattle.std.specs.Prelude.{◌≡◌, ◌≤◌};
-ghost use Rattle.window.specs.Refusals.{refusal_number_of, verdict_number, limits as limits_of, long_enough_of, fits as fits_of, fits_with_list_of, is_wire_number_of};
+ghost use Rattle.window.specs.Refusals.{verdict_number, limits as limits_of, long_enough_of, fits as fits_of, fits_with_list_of, is_wire_number_of};
 
 use crate::AdaptiveReceiverPacketWindow;
 use crate::memory::{BLOCK_WORDS, PAGE_WORDS, block_count, capacity, page_count};
@@ -24,47 +24,44 @@ pub enum Refusal {
 }
 
 // The number of a refusal.
-pub fn refusal_number(why: Refusal) -> u32
-    ensures { result ≡ refusal_number_of why }
-{
-    match why {
-        Refusal::WindowSize => 1,
-        Refusal::SparseCells => 2,
-        Refusal::DemoteAt => 3,
-        Refusal::Occupied => 4,
-        Refusal::RangeCount => 5,
-        Refusal::ShortMemory => 6,
-        Refusal::Unsound => 7,
-        Refusal::Budget => 8,
-        Refusal::Base => 9,
-        Refusal::Sequence => 10,
-        Refusal::ShortList => 11,
-        Refusal::LossList => 12,
-    }
-}
+impl From<Refusal> for u32 {
+    ghost use Rattle.window.specs.Refusals.{refusal_number_of};
 
-// What a test for refusals answers.
-#[derive(Clone, Copy)]
-pub enum Verdict {
-    Pass,
-    Refuse(Refusal),
+    ghost from_gives = { λ why number. number ≡ refusal_number_of why };
+
+    fn from(why: Refusal) -> u32 {
+        match why {
+            Refusal::WindowSize => 1,
+            Refusal::SparseCells => 2,
+            Refusal::DemoteAt => 3,
+            Refusal::Occupied => 4,
+            Refusal::RangeCount => 5,
+            Refusal::ShortMemory => 6,
+            Refusal::Unsound => 7,
+            Refusal::Budget => 8,
+            Refusal::Base => 9,
+            Refusal::Sequence => 10,
+            Refusal::ShortList => 11,
+            Refusal::LossList => 12,
+        }
+    }
 }
 
 // Refusals 1 to 3, in this order.
 #[tactic(auto, unfolding(crate::specs::Refusals::limits))]
-pub fn limits(window_size: u32, n: u32, demote_at: u32) -> Verdict
+pub fn limits(window_size: u32, n: u32, demote_at: u32) -> Result<(), Refusal>
     ensures { verdict_number result ≡ limits_of window_size n demote_at }
 {
     if window_size < 1 || 65536 < window_size {
-        return Verdict::Refuse(Refusal::WindowSize);
+        return Err(Refusal::WindowSize);
     }
     if n < 1 || 63 < n {
-        return Verdict::Refuse(Refusal::SparseCells);
+        return Err(Refusal::SparseCells);
     }
     if n < demote_at {
-        return Verdict::Refuse(Refusal::DemoteAt);
+        return Err(Refusal::DemoteAt);
     }
-    Verdict::Pass
+    Ok(())
 }
 
 // Whether the lists, by their lengths, are as long as `window_size` names them.
@@ -102,11 +99,8 @@ pub fn fits(
 ) -> bool
     ensures { result ≡ fits_of w sequences values pages blocks }
 {
-    let verdict = limits(w.window_size, w.n, w.demote_at);
-    if let Verdict::Refuse(why) = verdict {
-        return false;
-    }
-    long_enough(w.window_size, sequences, values, pages, blocks)
+    limits(w.window_size, w.n, w.demote_at).is_ok()
+        && long_enough(w.window_size, sequences, values, pages, blocks)
 }
 
 // The same for a call with a return list, which has 384 places or more.

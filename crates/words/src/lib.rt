@@ -3,14 +3,14 @@
 #![tactic(auto)]
 
 ghost use Rattle.std.specs.Prelude.{◌≡◌, ◌<◌, ◌≤◌};
-ghost use Rattle.words.specs.Word.{bit_at, set_bit, clear_bit, span as span_of, lowest as lowest_of, count as count_of};
+ghost use Rattle.words.specs.Word.{is_set, set_bit, clear_bit, span as span_of, lowest as lowest_of, count as count_of};
 
-// Bit k of w: 1 or 0.
-pub fn bit(w: u64, k: usize) -> u64
+// Whether bit k of w is set.
+pub fn bit(w: u64, k: usize) -> bool
     requires { k < 64 }
-    ensures { result ≡ bit_at w k }
+    ensures { result ≡ is_set w k }
 {
-    (w >> k) % 2
+    (w >> k) % 2 == 1
 }
 
 // w with bit k set.
