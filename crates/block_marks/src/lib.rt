@@ -29,6 +29,7 @@ pub struct Change {
 }
 
 // The words of one block.
+#[tactic(auto, unfolding(crate::specs::Blocks::block_words_at))]
 pub fn block_words(blocks: &[u64], block: usize) -> BlockWords
     requires { (block < 16) × RowIn words_per_block block blocks.now }
     ensures { result ≡ block_words_at blocks.now block }
@@ -84,8 +85,8 @@ pub fn add_live(w: AdaptiveReceiverPacketWindow, b: BlockWords, added: u32) -> C
 {
     let mut window = w;
     let mut words = b;
-    window.len = std::num::wrapping_add_u32(w.len, added);
-    words.live = std::num::wrapping_add_u64(b.live, added as u64);
+    window.len = w.len.wrapping_add(added);
+    words.live = b.live.wrapping_add(added as u64);
     Change {
         window,
         block: words,
@@ -96,19 +97,10 @@ pub fn add_live(w: AdaptiveReceiverPacketWindow, b: BlockWords, added: u32) -> C
 pub fn sub_live(w: AdaptiveReceiverPacketWindow, b: BlockWords, removed: u32) -> Change
     ensures { TakesLive w b removed result }
 {
-    let taken = removed as u64;
     let mut window = w;
     let mut words = b;
-    if removed <= w.len {
-        window.len = w.len - removed;
-    } else {
-        window.len = 0;
-    }
-    if taken <= b.live {
-        words.live = b.live - taken;
-    } else {
-        words.live = 0;
-    }
+    window.len = w.len.saturating_sub(removed);
+    words.live = b.live.saturating_sub(removed as u64);
     Change {
         window,
         block: words,
@@ -120,7 +112,7 @@ pub fn count_promotion(w: AdaptiveReceiverPacketWindow) -> AdaptiveReceiverPacke
     ensures { ChangesHeader (λ v. count_promotion_of v true) w result }
 {
     let mut window = w;
-    window.promotions = std::num::wrapping_add_u64(w.promotions, 1);
+    window.promotions = w.promotions.wrapping_add(1);
     window
 }
 
@@ -131,10 +123,10 @@ pub fn count_demotion(w: AdaptiveReceiverPacketWindow, cause: Cause) -> Adaptive
     let mut window = w;
     match cause {
         Cause::Single => {
-            window.single_demotions = std::num::wrapping_add_u64(w.single_demotions, 1);
+            window.single_demotions = w.single_demotions.wrapping_add(1);
         }
         Cause::Range => {
-            window.range_demotions = std::num::wrapping_add_u64(w.range_demotions, 1);
+            window.range_demotions = w.range_demotions.wrapping_add(1);
         }
     }
     window

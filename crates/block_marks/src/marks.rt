@@ -1,5 +1,5 @@
 // Retired marks: a page is retired if it is marked, or its block is.
-ghost use Rattle.std.specs.Prelude.{◌≡◌, ◌/◌, ◌<◌};
+ghost use Rattle.std.specs.Prelude.{◌≡◌, ◌/◌, ◌<◌, eqb};
 ghost use Rattle.window.specs.Memory.{words_per_block, RowIn};
 ghost use Rattle.model.specs.Steps.{drop_block_marks, split_block};
 ghost use Rattle.block_marks.specs.Blocks.{block_words_at};
@@ -11,20 +11,22 @@ use window::AdaptiveReceiverPacketWindow;
 use window::memory::BLOCK_WORDS;
 
 // The retired pages of a block, with `retired` its marks on pages: all of them if the block is marked.
+#[tactic(auto, unfolding(crate::specs::Marks::retired_pages_of))]
 pub fn retired_pages(retired_blocks: u64, retired: u64, block: usize) -> u64
     requires { block < 64 }
     ensures { result ≡ retired_pages_of retired_blocks retired block }
 {
-    if words::bit(retired_blocks, block) == 1 {
+    if words::bit(retired_blocks, block) {
         return u64::MAX;
     }
     retired
 }
 
-// Whether a page is retired: 1 or 0.
-pub fn page_retired(blocks: &[u64], retired_blocks: u64, page: usize) -> u64
+// Whether a page is retired.
+#[tactic(auto, unfolding(crate::specs::Blocks::block_words_at, crate::specs::Marks::page_retired_of))]
+pub fn page_retired(blocks: &[u64], retired_blocks: u64, page: usize) -> bool
     requires { (page < 1024) × RowIn words_per_block (page / 64) blocks.now }
-    ensures { result ≡ page_retired_of retired_blocks (block_words_at blocks.now (page / 64)) page }
+    ensures { result ≡ eqb (page_retired_of retired_blocks (block_words_at blocks.now (page / 64)) page) 1 }
 {
     let block = page / 64;
     let retired = blocks[BLOCK_WORDS * block + 1];
@@ -32,13 +34,14 @@ pub fn page_retired(blocks: &[u64], retired_blocks: u64, page: usize) -> u64
 }
 
 // A block's mark turned into marks on its nonempty pages.
+#[tactic(auto, unfolding(model::specs::Steps::split_block))]
 pub fn split_retired_block(w: AdaptiveReceiverPacketWindow, b: BlockWords, block: usize) -> Change
     requires { block < 16 }
     ensures { Changes (λ v. split_block v block) w b block result }
 {
     let mut window = w;
     let mut words = b;
-    if words::bit(w.retired_blocks, block) == 1 {
+    if words::bit(w.retired_blocks, block) {
         window.retired_blocks = words::clear(w.retired_blocks, block);
         words.retired = b.nonempty;
     }
@@ -76,6 +79,7 @@ pub fn mark_pages(b: BlockWords, pages: u64) -> BlockWords
 }
 
 // No mark on page `bit` of the block.
+#[tactic(auto, unfolding(crate::specs::Marks::without_mark))]
 pub fn unmark_page(b: BlockWords, bit: usize) -> BlockWords
     requires { bit < 64 }
     ensures { result ≡ without_mark b bit }
