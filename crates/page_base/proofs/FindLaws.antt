@@ -1,12 +1,12 @@
 -- The search for a cell, and what is found, over plain variables. Assumes nothing.
 use mathlib.Core.Path.{◌≡◌, refl, sym, ap, ◌∙◌}
+use Rattle.std.specs.Prelude.{Option, None, Some, IfSome, unwrap_or}
 use mathlib.Core.Bool.{true, false, true≢false}
 use mathlib.Core.List.{List}
 use Prim.Native.Nat.{ℕ, ◌%◌, ◌≤◌, ◌<◌}
 use native.Mathlib.Omega.{arith}
-use native.Mathlib.Decide.{dec_lt}
 use lib.ListN.{get_or}
-use borrow.Author.Tests.{eq-eqb, ne_eqb, eqb-true, lt-ltb, le-ltb}
+use borrow.Author.Tests.{eq-eqb, ne_eqb, eqb-true, eqb-false, lt-ltb}
 use Rattle.words.proofs.CaseLaws.{bool, both}
 use Rattle.words.specs.First.{first_from_of}
 use Rattle.words.proofs.FirstLaws.{first-is}
@@ -54,25 +54,27 @@ module _ (n : ℕ) (w : PageWords) (ss vs : List ℕ) (ok : Placed n (page w ss 
   abbrev here : Page
   here = page w ss vs
 
-  pub dense-slot : w.kind ≡ 2 → bit_at w.filled j ≡ 1 → j ≡ cell_of (page w ss vs) j
-  dense-slot k u = sym (cell_at n here ok j j l u (ok.dense_cells k j l u))
+  pub dense-slot : w.kind ≡ 2 → is_set w.filled j ≡ true → j ≡ cell_of (page w ss vs) j
+  dense-slot k t = let u = eqb-true _ _ t in sym (cell_at n here ok j j l u (ok.dense_cells k j l u))
 
-  pub free-slot : bit_at w.occupied j ≡ 0 → 64 ≡ cell_of (page w ss vs) j
-  free-slot z = sym (cell_free n here ok j z)
+  free-cell : bit_at w.occupied j ≡ 0 → 64 ≡ cell_of (page w ss vs) j
+  free-cell z = sym (cell_free n here ok j z)
 
-  pub dense-free : w.kind ≡ 2 → (bit_at w.filled j ≡ 1 → ⊥) → 64 ≡ cell_of (page w ss vs) j
-  dense-free k u = free-slot (omega (arith, bit-lt w.occupied j, ap (λ (x : ℕ). bit_at x j) (ok.dense_filled k)))
+  pub free-slot : is_set w.occupied j ≡ false → 64 ≡ cell_of (page w ss vs) j
+  free-slot t = free-cell (omega (arith, bit-lt w.occupied j, eqb-false _ _ t))
 
-  pub sparse-slot : n < 64 → (c : ℕ) → c ≡ first_from_of (is_at ss w.filled j) n 0 → c < n → c ≡ cell_of (page w ss vs) j
+  pub dense-free : w.kind ≡ 2 → is_set w.filled j ≡ false → 64 ≡ cell_of (page w ss vs) j
+  dense-free k t = free-cell (omega (arith, bit-lt w.occupied j, ap (λ (x : ℕ). bit_at x j) (ok.dense_filled k), eqb-false _ _ t))
+
+  -- what the search of the first n cells finds
+  pub sparse-slot : (w.kind ≡ 2 → ⊥) → n < 64 → (r : Option ℕ) → IfSome r (λ c. c < n)
+      → unwrap_or r n ≡ first_from_of (is_at ss w.filled j) n 0 → unwrap_or r 64 ≡ cell_of (page w ss vs) j
   unfolding is_at
-  sparse-slot m c e h =
+  sparse-slot k m (Some c) h e =
       let f = first-is (is_at ss w.filled j) n 0 in
       let t = both _ _ (ap (is_at ss w.filled j) e ∙ f.held (omega arith)) in
       sym (cell_at n here ok c j (omega arith) (eqb-true _ _ t.0) (eqb-true _ _ t.1))
-
-  pub sparse-none : (w.kind ≡ 2 → ⊥) → (c : ℕ) → c ≡ first_from_of (is_at ss w.filled j) n 0 → n ≤ c → 64 ≡ cell_of (page w ss vs) j
-  unfolding is_at
-  sparse-none k c e h =
+  sparse-slot k m None h e =
       let f = first-is (is_at ss w.filled j) n 0 in
       sym (cell-none here j (λ d m u q.
       true≢false (sym (rw (eq-eqb _ _ u, eq-eqb _ _ q) refl) ∙ f.none d (omega arith) (omega (arith, few-cells n here ok k d m u)))))
@@ -84,6 +86,11 @@ module _ (p : Page) (s : ℕ) where
   unfolding cell_with
   held c e l q = rw (sym e, lt-ltb c 64 l, eq-eqb _ _ q)
 
-  pub not-held : (c : ℕ) → c ≡ cell_of p (s % 64) → (c < 64 → p.sequences c ≡ s → ⊥) → 64 ≡ cell_with p s
+  -- another sequence in the cell of the position, or no cell
+  pub held_other : (c : ℕ) → c ≡ cell_of p (s % 64) → c < 64 → (p.sequences c ≡ s → ⊥) → 64 ≡ cell_with p s
   unfolding cell_with
-  not-held c e q = elim (dec_lt c 64) [ yes l ↦ rw (sym e, lt-ltb c 64 l, ne_eqb _ _ (q l)) | no l ↦ rw (sym e, le-ltb c 64 (omega arith)) ]
+  held_other c e l q = rw (sym e, lt-ltb c 64 l, ne_eqb _ _ q)
+
+  pub held_none : 64 ≡ cell_of p (s % 64) → 64 ≡ cell_with p s
+  unfolding cell_with
+  held_none e = rw (sym e)

@@ -9,7 +9,15 @@ ghost use Rattle.page_base.specs.Page.{words_at, with_page_words, part_of};
 
 use window::memory::{PAGE_SLOTS, PAGE_WORDS};
 
-// kind: 0 none, 1 sparse, 2 dense. occupied: bit p, position p of the page has a value. filled: bit c, cell c is in use.
+// The kinds of a page, as the lent memory holds them: numbers, since lent memory may hold any number, and a call on such memory is
+// defined too.
+pub const NONE: u64 = 0;
+
+pub const SPARSE: u64 = 1;
+
+pub const DENSE: u64 = 2;
+
+// occupied: bit p, position p of the page has a value. filled: bit c, cell c is in use.
 #[derive(Clone, Copy)]
 pub struct PageWords {
     pub kind: u64,
