@@ -63,6 +63,9 @@ module _ (w : ℕ) where
   unfolding free_of
   free-is = first-is (λ (c : ℕ). not (is_set w c)) 64 0
 
+  pub free-le : free_of w ≤ 64
+  free-le = free-is.top
+
   pub free-clear : free_of w < 64 → bit_at w (free_of w) ≡ 0
   free-clear l =
       let n = eqb-false (bit_at w (free_of w)) 1 (not-true _ (free-is.held l)) in

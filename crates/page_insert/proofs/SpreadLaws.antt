@@ -1,12 +1,12 @@
--- A list copied cell by cell, and values spread to the cells of their positions: what each cell holds. Assumes nothing.
+-- Values spread to the cells of their positions: what each cell holds. Assumes nothing.
 use mathlib.Core.Path.{◌≡◌, refl, sym, ap, ◌∙◌}
 use mathlib.Core.Bool.{cond}
 use mathlib.Core.List.{List}
-use Prim.Native.Nat.{ℕ, zero, suc, ◌+◌, ◌%◌, ◌<◌}
+use Prim.Native.Nat.{ℕ, zero, suc, ◌%◌, ◌<◌}
 use native.Mathlib.Nat.{not-suc-le-zero}
 use native.Mathlib.Omega.{arith}
 use native.Mathlib.Decide.{ℕ_discrete, dec_lt}
-use lib.ListN.{length, get_or, set, length-set}
+use lib.ListN.{length, get_or, length-set}
 use lib.Seq.{get_or-set_same, get_or-set_other}
 use borrow.Author.Tests.{eq-eqb, ne_eqb}
 use Rattle.words.specs.Word.{bit_at, is_set, span}
@@ -20,14 +20,6 @@ use Rattle.page_base.specs.Page.{cells, page, Placed}
 use Rattle.page_base.proofs.PartLaws.{cell_in, cell-past}
 use Rattle.page_base.proofs.PlaceLaws.{cell_at}
 use Rattle.page_insert.specs.Insert.{spread}
-
--- one more cell copied
-pub same_more : (a xs : List ℕ) (i : ℕ) → i < length a → ((k : ℕ) → k < i → get_or a k 0 ≡ get_or xs k 0)
-    → (k : ℕ) → k < i + 1 → get_or (set a i (get_or xs i 0)) k 0 ≡ get_or xs k 0
-same_more a xs i h same k l = elim (ℕ_discrete k i) [
-  | yes e ↦ rw e (get_or-set_same a i (get_or xs i 0) 0 h)
-  | no e ↦ get_or-set_other a i k (get_or xs i 0) 0 e ∙ same k (omega arith)
-]
 
 -- ---- values spread, by cell
 

@@ -1,29 +1,29 @@
 -- What an insert's steps give. Definitions only. Assumes nothing.
-use Rattle.std.specs.Prelude.{Bool, true, false, not, List, ℕ, zero, suc, ◌%◌, get_or, set}
+use Rattle.std.specs.Prelude.{Result, Ok, Err, Bool, true, false, not, List, ℕ, zero, suc, ◌%◌, get_or, set}
 use Rattle.words.specs.First.{first_from_of}
 use Rattle.words.specs.Word.{is_set}
+use Rattle.window.specs.declared.refusals.Refusal.{Refusal}
+use Rattle.window.specs.Refusals.{refusal_number_of}
 use Rattle.model.specs.Calls.{Answer, new, replaced, refused}
 use Rattle.model.specs.Pages as model
 use Rattle.page_base.specs.Page.{page}
 use Rattle.page_insert.specs.declared.InsertAnswer.{InsertAnswer}
-use Rattle.page_insert.specs.declared.InsertAnswer.TheVariants.{New, Promoted, Replaced, Occupied, Unsound}
+use Rattle.page_insert.specs.declared.InsertAnswer.TheVariants.{New, Promoted, Replaced}
 use Rattle.page_insert.specs.declared.Inserted.{Inserted}
 
--- document 01's answer for each answer of an insert into a page: refusal 4 at an occupied position, 7 on an unsound page
-abbrev pub answer_of : InsertAnswer → Answer
-answer_of New = new
-answer_of Promoted = new
-answer_of (Replaced v) = replaced v
-answer_of Occupied = refused 4
-answer_of Unsound = refused 7
+-- document 01's answer for each answer of an insert into a page, and for its refusals: 4 at an occupied position, 7 on an unsound page
+abbrev pub answer_of : Result InsertAnswer Refusal → Answer
+answer_of (Ok New) = new
+answer_of (Ok Promoted) = new
+answer_of (Ok (Replaced v)) = replaced v
+answer_of (Err why) = refused (refusal_number_of why)
 
 -- whether the page became dense
-abbrev pub promotes : InsertAnswer → Bool
-promotes New = false
-promotes Promoted = true
-promotes (Replaced v) = false
-promotes Occupied = false
-promotes Unsound = false
+abbrev pub promotes : Result InsertAnswer Refusal → Bool
+promotes (Ok New) = false
+promotes (Ok Promoted) = true
+promotes (Ok (Replaced v)) = false
+promotes (Err why) = false
 
 -- what an insert leaves: the page, its answer, and whether it became dense
 abbrev pub inserted_of : Inserted → List ℕ → List ℕ → model.Inserted

@@ -1,38 +1,43 @@
 // A value into a page. `sequences` and `values` are the page's 64 cells: a part of the lent memory, which begins at 64 × page.
 #![tactic(auto)]
 
-ghost use Rattle.std.specs.Prelude.{◌≡◌, ◌<◌, ◌≤◌, length};
+ghost use Rattle.std.specs.Prelude.{◌≡◌, ◌<◌, ◌≤◌, length, IfSome, unwrap_or};
 ghost use Rattle.model.specs.Pages.{put_cell};
 ghost use Rattle.page_base.specs.Page.{page as page_of};
 ghost use Rattle.page_insert.specs.Insert.{spread as spread_of, free_of};
 ghost use Rattle.page_insert.specs.Promises.{Promotes, Replaces, InsertsNew, Inserts};
 
-use page_base::PageWords;
 use page_base::find::slot_at;
+use page_base::{DENSE, PageWords, SPARSE};
 use window::memory::PAGE_SLOTS;
+use window::refusals::Refusal;
 
-// What an insert into a page answers. Unsound: the page's words do not fit each other, and nothing was written.
+// What an insert into a page answers that is not refused.
 #[derive(Clone, Copy)]
 pub enum InsertAnswer {
     New,
     Promoted,
     Replaced(u32),
-    Occupied,
-    Unsound,
 }
 
-// The page's words after an insert, and its answer.
+// The page's words after an insert, and its answer or its refusal: Occupied, or Unsound, where the page's words do not fit each other.
+// A refused insert wrote nothing.
 #[derive(Clone, Copy)]
 pub struct Inserted {
     pub words: PageWords,
-    pub answer: InsertAnswer,
+    pub answer: Result<InsertAnswer, Refusal>,
 }
 
-// The lowest cell not in use; 64 if every cell is.
-fn free_cell(filled: u64) -> usize
-    ensures { result ≡ free_of filled }
+// The lowest cell not in use.
+fn free_cell(filled: u64) -> Option<usize>
+    ensures within { IfSome result (λ c. c < 64) }
+    ensures lowest { unwrap_or result 64 ≡ free_of filled }
 {
-    words::lowest(!filled, 0)
+    let c = words::lowest(!filled, 0);
+    if c < PAGE_SLOTS {
+        return Some(c);
+    }
+    None
 }
 
 // The sequence and the value into cell c, which comes into use, of a page of this kind.
@@ -66,24 +71,19 @@ fn copied(cells: &[u32]) -> [u32; PAGE_SLOTS]
     ensures { result ≡ cells.now }
 {
     let mut copy = [0u32; PAGE_SLOTS];
-    let mut c: usize = 0;
-    while c < PAGE_SLOTS {
-        copy[c] = cells[c];
-        c += 1;
-    }
+    copy.copy_from_slice(cells);
     copy
 }
 
 // The first n of `from` into `cells`, each to the position of its sequence.
+#[tactic(auto, using(std::proofs::lemmas::Grind::common_steps), unfolding(crate::specs::Insert::spread))]
 fn spread(cells: &mut [u32], sequences: &[u32; PAGE_SLOTS], from: &[u32; PAGE_SLOTS], n: usize)
     requires { (n ≤ 64) × (length cells.old ≡ 64) }
     ensures { cells.new ≡ spread_of sequences.now from.now n cells.old }
 {
-    let mut c: usize = 0;
-    while c < n {
+    for c in 0..n {
         let slot = (sequences[c] % 64) as usize;
         cells[slot] = from[c];
-        c += 1;
     }
 }
 
@@ -97,7 +97,7 @@ fn promote(sequences: &mut [u32], values: &mut [u32], w: PageWords, n: usize) ->
     spread(sequences, &s, &s, n);
     spread(values, &s, &v, n);
     PageWords {
-        kind: 2,
+        kind: DENSE,
         occupied: w.occupied,
         filled: w.occupied,
     }
@@ -120,12 +120,12 @@ fn replace(
         values[c] = value;
         return Inserted {
             words: w,
-            answer: InsertAnswer::Replaced(old),
+            answer: Ok(InsertAnswer::Replaced(old)),
         };
     }
     Inserted {
         words: w,
-        answer: InsertAnswer::Occupied,
+        answer: Err(Refusal::Occupied),
     }
 }
 
@@ -141,42 +141,38 @@ fn insert_new(
     requires { (length sequences.old ≡ 64) × (length values.old ≡ 64) × (0 < n) × (n < 64) }
     ensures { InsertsNew n w sequences.old values.old sequence value result sequences.new values.new }
 {
-    let kind = w.kind;
-    let occupied = w.occupied;
-    let filled = w.filled;
     let slot = (sequence % 64) as usize;
-    if kind == 2 {
-        let words = put(sequences, values, w, 2, slot, sequence, value);
+    if w.kind == DENSE {
+        let words = put(sequences, values, w, DENSE, slot, sequence, value);
         return Inserted {
             words,
-            answer: InsertAnswer::New,
+            answer: Ok(InsertAnswer::New),
         };
     }
-    if words::count(occupied) < n {
-        let c = free_cell(filled);
-        if PAGE_SLOTS <= c {
+    if words::count(w.occupied) < n {
+        let Some(c) = free_cell(w.filled) else {
             return Inserted {
                 words: w,
-                answer: InsertAnswer::Unsound,
+                answer: Err(Refusal::Unsound),
             };
-        }
-        let words = put(sequences, values, w, 1, c, sequence, value);
+        };
+        let words = put(sequences, values, w, SPARSE, c, sequence, value);
         return Inserted {
             words,
-            answer: InsertAnswer::New,
+            answer: Ok(InsertAnswer::New),
         };
     }
-    if filled != words::span(0, n) {
+    if w.filled != words::span(0, n) {
         return Inserted {
             words: w,
-            answer: InsertAnswer::Unsound,
+            answer: Err(Refusal::Unsound),
         };
     }
     let dense = promote(sequences, values, w, n);
-    let words = put(sequences, values, dense, 2, slot, sequence, value);
+    let words = put(sequences, values, dense, DENSE, slot, sequence, value);
     Inserted {
         words,
-        answer: InsertAnswer::Promoted,
+        answer: Ok(InsertAnswer::Promoted),
     }
 }
 
@@ -193,9 +189,8 @@ pub fn insert(
     ensures { Inserts n w sequences.old values.old sequence value result sequences.new values.new }
 {
     let slot = (sequence % 64) as usize;
-    let c = slot_at(sequences, w, n, slot);
-    if c < PAGE_SLOTS {
-        return replace(sequences, values, w, c, sequence, value);
+    match slot_at(sequences, w, n, slot) {
+        Some(c) => replace(sequences, values, w, c, sequence, value),
+        None => insert_new(sequences, values, w, n, sequence, value),
     }
-    insert_new(sequences, values, w, n, sequence, value)
 }
