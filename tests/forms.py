@@ -13,7 +13,7 @@ FORMS = [
     ('that begins at 64 × page', 'call_point/src/exchange.rt', 'exchange_in_page', [r'let from = PAGE_SLOTS \* page;', r'&mut values\[from\.\.to\]']),
     ('that begins at 64 × page', 'call_point/src/remove.rt', 'remove_in_page', [r'let from = PAGE_SLOTS \* page;', r'&mut sequences\[from\.\.to\]', r'&mut values\[from\.\.to\]']),
     ('that begins at 64 × page', 'call_point/src/insert.rt', 'insert_in_page', [r'let from = PAGE_SLOTS \* page;', r'&mut sequences\[from\.\.to\]', r'&mut values\[from\.\.to\]']),
-    ('the walk over pages yields the first live sequence, or none', 'block_search/src/walk.rt', 'find_live', [r'= loop \{', r'break Found::At\(', r'break Found::Nothing;']),
+    ('the walk over pages yields the first live sequence, or none', 'block_search/src/walk.rt', 'find_live', [r'= loop \{', r'break Ok\(Some\(', r'break Ok\(None\);']),
     ('wrapping_sub on sequences stays', 'call_base/src/lib.rt', 'distance', [r'std::num::wrapping_sub_u32\(sequence, base\)']),
     ('wrapping_sub on sequences stays', 'call_base/src/lib.rt', 'range_count', [r'distance\(first, last\) \+ 1']),
     ('wrapping_sub on sequences stays', 'call_read/src/lib.rt', 'first_from', [r'std::num::wrapping_sub_u32\(sequence, 1\)']),

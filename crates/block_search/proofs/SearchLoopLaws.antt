@@ -68,6 +68,11 @@ module _ (blocks : List ℕ) (summary retired_blocks start end : ℕ) (select : 
       let l = and_le_l (selected_pages_of blocks retired_blocks b select) (bits_within_of start end b) in
       omega (arith, l, selected-lt blocks summary retired_blocks select b)
 
+  -- what the code holds for them
+  pub code_is : (d x y b : ℕ) → x ≡ selected_pages_of blocks retired_blocks d select → y ≡ bits_within_of start end d → d ≡ b
+      → bit_and x y ≡ pages_in b
+  code_is d x y b ex ey e = (λ i. bit_and (ex i) (ey i)) ∙ ap pages_in e
+
   -- ---- no page of the range is selected
   pub nowhere : start ≤ end → ((g : ℕ) → start ≤ g → g < end → Looked g ≡ false) → end ≡ first_from_of Looked (end - start) start
   nowhere l empty = first-eq Looked (end - start) start end (record { from = l; top = omega arith; held = λ m. absurd (omega arith); none = empty })
@@ -107,8 +112,8 @@ module _ (blocks : List ℕ) (summary retired_blocks start end : ℕ) (select : 
     block_held : bit_at left b ≡ 1
     block_held = taken-held left known.small some
 
-    pub block_in : (start / 64 ≤ b) × (b ≤ (end - 1) / 64)
-    block_in = (known.low b block_held, known.high b block_held)
+    pub block_in : (d : ℕ) → d ≡ lowest left 0 → (start / 64 ≤ d) × (d ≤ (end - 1) / 64)
+    block_in d e = rw e (known.low b block_held, known.high b block_held)
 
     before : (d : ℕ) → d < b → bit_at left d ≡ 0
     before d l = (lowest-is left 0 (omega arith)).none d (omega arith) l
@@ -133,31 +138,40 @@ module _ (blocks : List ℕ) (summary retired_blocks start end : ℕ) (select : 
     fewer = rest-fewer left known.small some
 
     -- its block holds such a page
-    pub finds : (pages_in b ≡ 0 → ⊥) → 64 * b + lowest (pages_in b) 0 ≡ first_from_of Looked (end - start) start
-    finds n =
-        let w = pages_in b in
-        let r = lowest w 0 in
-        let i = lowest-is w 0 (omega arith) in
-        let low = lowest-some w (pages-lt b) n in
-        let x = selected_pages_of blocks retired_blocks b select in
-        let y = bits_within_of start end b in
-        let t = both (is_set x r) (is_set y r) (sym (and_set x y r) ∙ eq-eqb (bit_at w r) 1 (i.held low)) in
-        let u = both (leb start (64 * b + r)) (ltb (64 * b + r) end) (sym (bits-within-set start end b r low) ∙ t.1) in
-        let above = leb-true start (64 * b + r) u.0 in
-        let below = ltb-true (64 * b + r) end u.1 in
-        let p : (64 * b + r) / 64 ≡ b = omega arith in
-        let q : (64 * b + r) % 64 ≡ r = omega arith in
-        first-eq Looked (end - start) start (64 * b + r) (record {
-          from = above;
-          top = omega arith;
-          held = λ l.
-              selected-in blocks summary retired_blocks select (64 * b + r)
-              ∙ (λ k. is_set summary (p k) && is_set (selected_pages_of blocks retired_blocks (p k) select) (q k))
-              ∙ rw (eq-eqb (bit_at summary b) 1 (known.named b block_held)) t.0;
-          none = λ j l m. elim (dec_le b (j / 64)) [
-            | yes h ↦
-                let e : j / 64 ≡ b = omega arith in
-                unselected j l (omega arith) (ap (λ (d : ℕ). bit_at (pages_in d) (j % 64)) e ∙ i.none (j % 64) (omega arith) (omega arith))
-            | no h ↦ known.none j l (omega arith) (before (j / 64) (omega arith))
-          ];
-        })
+    module _ (n : pages_in b ≡ 0 → ⊥) where
+      abbrev r : ℕ
+      r = lowest (pages_in b) 0
+
+      low : lowest (pages_in b) 0 < 64
+      low = lowest-some (pages_in b) (pages-lt b) n
+
+      bits : (is_set (selected_pages_of blocks retired_blocks b select) r ≡ true) × (is_set (bits_within_of start end b) r ≡ true)
+      bits =
+          let x = selected_pages_of blocks retired_blocks b select in
+          let y = bits_within_of start end b in
+          both (is_set x r) (is_set y r) (sym (and_set x y r) ∙ eq-eqb (bit_at (pages_in b) r) 1 ((lowest-is (pages_in b) 0 (omega arith)).held low))
+
+      pub found_in : (start ≤ 64 * b + lowest (pages_in b) 0) × (64 * b + lowest (pages_in b) 0 < end)
+      found_in =
+          let u = both (leb start (64 * b + r)) (ltb (64 * b + r) end) (sym (bits-within-set start end b r low) ∙ bits.1) in
+          (leb-true start (64 * b + r) u.0, ltb-true (64 * b + r) end u.1)
+
+      pub finds : 64 * b + lowest (pages_in b) 0 ≡ first_from_of Looked (end - start) start
+      finds =
+          let i = lowest-is (pages_in b) 0 (omega arith) in
+          let p : (64 * b + r) / 64 ≡ b = omega (arith, low) in
+          let q : (64 * b + r) % 64 ≡ r = omega (arith, low) in
+          first-eq Looked (end - start) start (64 * b + r) (record {
+            from = found_in.0;
+            top = omega (arith, found_in);
+            held = λ l.
+                selected-in blocks summary retired_blocks select (64 * b + r)
+                ∙ (λ k. is_set summary (p k) && is_set (selected_pages_of blocks retired_blocks (p k) select) (q k))
+                ∙ rw (eq-eqb (bit_at summary b) 1 (known.named b block_held)) bits.0;
+            none = λ j l m. elim (dec_le b (j / 64)) [
+              | yes h ↦
+                  let e : j / 64 ≡ b = omega (arith, low) in
+                  unselected j l (omega (arith, found_in)) (ap (λ (d : ℕ). bit_at (pages_in d) (j % 64)) e ∙ i.none (j % 64) (omega arith) (omega arith))
+              | no h ↦ known.none j l (omega (arith, found_in)) (before (j / 64) (omega arith))
+            ];
+          })

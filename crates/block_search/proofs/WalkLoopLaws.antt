@@ -3,6 +3,7 @@
 use mathlib.Core.Path.{◌≡◌, sym, ap, ◌∙◌, subst}
 use mathlib.Core.Bool.{Bool, true, false, true≢false}
 use mathlib.Core.Option.{some}
+use Rattle.std.specs.Prelude.{Option, None, Some, unwrap_or}
 use mathlib.Core.List.{List}
 use Prim.Native.Nat.{ℕ, ◌+◌, ◌-◌, ◌*◌, ◌/◌, ◌%◌, ◌≤◌, ◌<◌}
 use native.Mathlib.Omega.{arith}
@@ -140,16 +141,21 @@ module _ (h : AdaptiveReceiverPacketWindow) (ss vs pages blocks : List ℕ) (sta
           rw (← q, lt-ltb (64 * g + j) end range.1, here) (ap (λ (x : ℕ). found (cells (part_of g ss) x)) e)
 
       -- the same of what the code holds: the page's words, its part of the sequences, the range's bits and the cell found
-      module _ (w : PageWords) (cs : List ℕ) (b q c : ℕ) (ew : w ≡ words_at pages g) (ec : cs ≡ part_of g ss) (eb : b ≡ bits_within_of start end g)
-          (eq : q ≡ lowest (bit_and w.occupied b) 0) (slot : SlotAt h.n w cs q c) where
-        cell-is : c ≡ cell_of (page (words_at pages g) (part_of g ss) (part_of g vs)) (lowest (bit_and (words_at pages g).occupied (bits_within_of start end g)) 0)
+      module _ (w : PageWords) (cs : List ℕ) (b q : ℕ) (r : Option ℕ) (ew : w ≡ words_at pages g) (ec : cs ≡ part_of g ss) (eb : b ≡ bits_within_of start end g)
+          (eq : q ≡ lowest (bit_and w.occupied b) 0) (slot : SlotAt h.n w cs q r) where
+        cell-is : unwrap_or r 64 ≡ cell_of (page (words_at pages g) (part_of g ss) (part_of g vs)) (lowest (bit_and (words_at pages g).occupied (bits_within_of start end g)) 0)
         cell-is =
             let e : q ≡ lowest (bit_and (words_at pages g).occupied (bits_within_of start end g)) 0 = eq ∙ (λ i. lowest (bit_and (ew i).occupied (eb i)) 0) in
             slot.cell (part_of g vs) (subst (Placed h.n) (sym (λ i. page (ew i) (ec i) (part_of g vs))) (at-placed g l))
             ∙ (λ i. cell_of (page (ew i) (ec i) (part_of g vs)) (e i))
 
-        pub walk-cell : c < 64
-        walk-cell = omega (arith, cell-is, slot-cell)
+        -- there is a cell, and its sequence is the answer
+        pub walk-cell : r ≡ None → ⊥
+        walk-cell e = omega (arith, cell-is, slot-cell, ap (λ (o : Option ℕ). unwrap_or o 64) e)
 
-        pub walk-answer : found (get_or cs c 0) ≡ first_live (decode h (memory ss vs pages blocks)) start end
-        walk-answer = ap (λ (x : ℕ). found x) (ap (λ (l : List ℕ). get_or l c 0) ec ∙ sym (cell_in (part_of g ss) c walk-cell)) ∙ answer_at c cell-is
+        pub walk-answer : (c : ℕ) → r ≡ Some c → found (get_or cs c 0) ≡ first_live (decode h (memory ss vs pages blocks)) start end
+        walk-answer c e =
+            let at-cell : c ≡ cell_of (page (words_at pages g) (part_of g ss) (part_of g vs)) (lowest (bit_and (words_at pages g).occupied (bits_within_of start end g)) 0)
+            = ap (λ (o : Option ℕ). unwrap_or o 64) (sym e) ∙ cell-is in
+            ap (λ (x : ℕ). found x) (ap (λ (l : List ℕ). get_or l c 0) ec ∙ sym (cell_in (part_of g ss) c (omega (arith, at-cell, slot-cell))))
+            ∙ answer_at c at-cell

@@ -3,11 +3,10 @@
 
 pub mod walk;
 
-ghost use Rattle.std.specs.Prelude.{◌≡◌, ◌+◌, ◌*◌, ◌/◌, ◌-◌, ◌≤◌, ◌<◌, length};
+ghost use Rattle.std.specs.Prelude.{◌≡◌, ◌+◌, ◌*◌, ◌/◌, ◌-◌, ◌≤◌, ◌<◌, length, unwrap_or, IfSome};
 ghost use Rattle.words.specs.First.{first_from_of};
 ghost use Rattle.window.specs.Memory.{words_per_block, RowIn};
 ghost use Rattle.block_search.specs.Search.{bits_within_of, selected_pages_of, is_selected};
-ghost use Rattle.block_search.specs.declared.Select.TheVariants.{Nonempty as nonempty, Live as live, Retired as retired};
 
 use block_marks::block_words;
 use block_marks::marks::retired_pages;
@@ -51,20 +50,21 @@ pub fn selected_pages(blocks: &[u64], retired_blocks: u64, block: usize, select:
     }
 }
 
-// The first selected page from `start` up to `end`; `end` if there is none.
-fn next_page_where(
+// The first selected page from `start` up to `end`, if there is one.
+pub fn next_page(
     blocks: &[u64],
     nonempty_summary: u64,
     retired_blocks: u64,
     start: usize,
     end: usize,
     select: Select,
-) -> usize
+) -> Option<usize>
     requires { (start ≤ end) × (end ≤ 1024) × (words_per_block * ((end + 63) / 64) ≤ length blocks.now) }
-    ensures { result ≡ first_from_of (is_selected blocks.now nonempty_summary retired_blocks select) (end - start) start }
+    ensures first { unwrap_or result end ≡ first_from_of (is_selected blocks.now nonempty_summary retired_blocks select) (end - start) start }
+    ensures in_range { IfSome result (λ page. page < end) }
 {
     if end <= start {
-        return end;
+        return None;
     }
     let first = start / 64;
     let last = (end - 1) / 64;
@@ -74,72 +74,9 @@ fn next_page_where(
         let pages = selected_pages(blocks, retired_blocks, block, select)
             & bits_within(start, end, block);
         if pages != 0 {
-            return 64 * block + words::lowest(pages, 0);
+            return Some(64 * block + words::lowest(pages, 0));
         }
         summary = words::clear(summary, block);
     }
-    end
-}
-
-// The first page from `start` up to `end` that holds a value; `end` if there is none.
-pub fn next_nonempty_page(
-    blocks: &[u64],
-    nonempty_summary: u64,
-    retired_blocks: u64,
-    start: usize,
-    end: usize,
-) -> usize
-    requires { (start ≤ end) × (end ≤ 1024) × (words_per_block * ((end + 63) / 64) ≤ length blocks.now) }
-    ensures { result ≡ first_from_of (is_selected blocks.now nonempty_summary retired_blocks nonempty) (end - start) start }
-{
-    next_page_where(
-        blocks,
-        nonempty_summary,
-        retired_blocks,
-        start,
-        end,
-        Select::Nonempty,
-    )
-}
-
-// The first that holds a value and is not retired.
-pub fn next_live_page(
-    blocks: &[u64],
-    nonempty_summary: u64,
-    retired_blocks: u64,
-    start: usize,
-    end: usize,
-) -> usize
-    requires { (start ≤ end) × (end ≤ 1024) × (words_per_block * ((end + 63) / 64) ≤ length blocks.now) }
-    ensures { result ≡ first_from_of (is_selected blocks.now nonempty_summary retired_blocks live) (end - start) start }
-{
-    next_page_where(
-        blocks,
-        nonempty_summary,
-        retired_blocks,
-        start,
-        end,
-        Select::Live,
-    )
-}
-
-// The first that holds a value and is retired.
-pub fn next_retired_page(
-    blocks: &[u64],
-    nonempty_summary: u64,
-    retired_blocks: u64,
-    start: usize,
-    end: usize,
-) -> usize
-    requires { (start ≤ end) × (end ≤ 1024) × (words_per_block * ((end + 63) / 64) ≤ length blocks.now) }
-    ensures { result ≡ first_from_of (is_selected blocks.now nonempty_summary retired_blocks retired) (end - start) start }
-{
-    next_page_where(
-        blocks,
-        nonempty_summary,
-        retired_blocks,
-        start,
-        end,
-        Select::Retired,
-    )
+    None
 }

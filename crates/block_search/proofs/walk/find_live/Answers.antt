@@ -1,11 +1,7 @@
-use mathlib.Core.Path.{◌≡◌, sym, ap, ◌∙◌}
-use mathlib.Core.Bool.{true}
-use Prim.Native.Nat.{◌+◌, ◌-◌, ◌/◌, ◌≤◌, ◌<◌}
-use native.Mathlib.Omega.{arith}
+use Rattle.std.proofs.Common.{◌≡◌, sym, ap, ◌∙◌, ◌/◌, ◌≤◌, ◌<◌, true, length, arith, rules}
 use lib.Bits.{and_le_l}
-use lib.ListN.{length}
 use Rattle.words.proofs.LowestLaws.{lowest-some}
-use Rattle.window.specs.Memory.{capacity, page_count_of}
+use Rattle.window.specs.Memory.{page_count_of}
 use Rattle.window.proofs.MemoryLaws.{capacity-pages, page-count-le}
 use Rattle.page_base.specs.declared.PageWords.{PageWords}
 use Rattle.page_base.proofs.PartLaws.{part_length}
@@ -13,116 +9,107 @@ use Rattle.block_search.specs.declared.Select.TheVariants.{Live}
 use Rattle.block_search.specs.Search.{is_selected}
 use Rattle.block_search.proofs.WalkLaws.{Passed, passed-begins, next-ge, next-selected, passed_to, passed-page}
 use Rattle.block_search.proofs.WalkLoopLaws.{occupied_in, word-is, walk-nothing, live-page, walk-cell, walk-answer}
-use borrow.Author.Rules.{rules}
 use Rattle.block_search.proofs.walk.find_live.Goals as goal
+use Rattle.block_search.proofs.walk.find_live.Goals.{In-Some, After-page_cells-cells}
 
+-- ---- the page that the search gives
+page-lt : (c : In-Some) → c.in-Some.page < page_count_of c.args.w.window_size
+page-lt c = omega (arith, c.in-Some.ensures.in_range, capacity-pages c.args.w.window_size)
+
+page-ge : (c : In-Some) → c.loop-page.from ≤ c.in-Some.page
+page-ge c = next-ge _ _ _ _ _ _ c.loop-page.invariant.1 c.loop-page.invariant.0 c.in-Some.ensures.first
+
+selected : (c : In-Some) → let s = c.args in is_selected s.blocks.now s.w.nonempty_summary s.w.retired_blocks Live c.in-Some.page ≡ true
+selected c = next-selected _ _ _ _ _ _ c.loop-page.invariant.1 c.loop-page.invariant.0 c.in-Some.ensures.first c.in-Some.ensures.in_range
+
+up_to : (c : In-Some) →
+    let s = c.args in
+    Passed (is_selected s.blocks.now s.w.nonempty_summary s.w.retired_blocks Live) (occupied_in s.pages.now s.start s.end) (s.start / 64) c.in-Some.page
+up_to c = passed_to _ _ _ _ _ _ c.loop-page.invariant.1 c.loop-page.invariant.0 c.in-Some.ensures.first
+
+part-long : (c : After-page_cells-cells) → length c.page_cells-cells.result.now ≡ 64
+part-long c =
+    rw c.page_cells-cells.ensures
+    (part_length c.in-Some.page c.args.sequences.now (omega (arith, c.in-Some.ensures.in_range, capacity-pages c.args.w.window_size)))
+
+-- ---- the goals
 pub loop-page-init : goal.loop-page-init
 loop-page-init c = (omega arith, passed-begins _ _ _)
 
-pub next_live_page-page-requires : goal.next_live_page-page-requires
-next_live_page-page-requires c =
-    let stop_le : (c.args.end - 1) / 64 + 1 ≤ page_count_of c.args.w.window_size = let s = c.args in omega (arith, capacity-pages s.w.window_size) in
+pub next_page-requires : goal.next_page-requires
+next_page-requires c =
     let size = c.args.w.window_size in
-    (c.loop-page.invariant.0, omega (arith, stop_le, page-count-le size), omega (arith, stop_le))
+    (c.loop-page.invariant.0, omega (arith, capacity-pages size, page-count-le size), omega (arith, capacity-pages size))
 
 pub page_words-words-requires : goal.page_words-words-requires
 page_words-words-requires c =
-    let stop_le : (c.args.end - 1) / 64 + 1 ≤ page_count_of c.args.w.window_size = let s = c.args in omega (arith, capacity-pages s.w.window_size) in
-    let page-lt : c.next_live_page-page.result < page_count_of c.args.w.window_size = omega (arith, stop_le, c.if-stop-page.false) in
-    let size = c.args.w.window_size in (omega (arith, page-lt, page-count-le size), omega (arith, page-lt))
+    let l = page-lt (goal.at.page_words-words-requires c).In-Some in
+    (omega (arith, l, page-count-le c.args.w.window_size), omega (arith, l))
 
 pub bits_within-requires : goal.bits_within-requires
 bits_within-requires c =
-    let page-ge : c.loop-page.from ≤ c.next_live_page-page.result = next-ge _ _ _ _ _ _ c.loop-page.invariant.1 c.loop-page.invariant.0 c.next_live_page-page.ensures in
-    (search rules, omega (arith, c.loop-page.invariant.1.begun, page-ge), omega (arith, c.if-stop-page.false))
+    let l = page-ge (goal.at.bits_within-requires c).In-Some in
+    (search rules, omega (arith, c.loop-page.invariant.1.begun, l), omega (arith, c.in-Some.ensures.in_range))
 
 pub page_cells-cells-requires : goal.page_cells-cells-requires
-page_cells-cells-requires c =
-    let stop_le : (c.args.end - 1) / 64 + 1 ≤ page_count_of c.args.w.window_size = let s = c.args in omega (arith, capacity-pages s.w.window_size) in
-    let page-lt : c.next_live_page-page.result < page_count_of c.args.w.window_size = omega (arith, stop_le, c.if-stop-page.false) in
-    let size = c.args.w.window_size in omega (arith, page-lt, capacity-pages size)
+page_cells-cells-requires c = omega (arith, c.in-Some.ensures.in_range, capacity-pages c.args.w.window_size)
 
-pub slot_at-c-requires : goal.slot_at-c-requires
-slot_at-c-requires c =
-    let stop_le : (c.args.end - 1) / 64 + 1 ≤ page_count_of c.args.w.window_size = let s = c.args in omega (arith, capacity-pages s.w.window_size) in
-    let page-lt : c.next_live_page-page.result < page_count_of c.args.w.window_size = omega (arith, stop_le, c.if-stop-page.false) in
-    let part-long : length c.page_cells-cells.result.now ≡ 64 = let s = c.args in
-    let size = s.w.window_size in
-    rw c.page_cells-cells.ensures (part_length c.next_live_page-page.result s.sequences.now (omega (arith, page-lt, capacity-pages size))) in
-    let slot_lt : c.lowest.result < 64 = rw c.lowest.ensures (lowest-some _ (omega (arith, and_le_l c.page_words-words.result.occupied c.bits_within.result)) c.if-occupied-ne0.true) in
-    (part-long, search rules, slot_lt)
+pub slot_at-requires : goal.slot_at-requires
+slot_at-requires c = (
+  part-long (goal.at.slot_at-requires c).After-page_cells-cells,
+  search rules,
+  rw c.lowest.ensures (lowest-some _ (omega (arith, and_le_l c.page_words-words.result.occupied c.bits_within.result)) c.if-occupied-ne0.true),
+)
 
 pub bounds-cells-c : goal.bounds-cells-c
-bounds-cells-c c =
-    let stop_le : (c.args.end - 1) / 64 + 1 ≤ page_count_of c.args.w.window_size = let s = c.args in omega (arith, capacity-pages s.w.window_size) in
-    let page-lt : c.next_live_page-page.result < page_count_of c.args.w.window_size = omega (arith, stop_le, c.if-stop-page.false) in
-    let part-long : length c.page_cells-cells.result.now ≡ 64 = let s = c.args in
-    let size = s.w.window_size in
-    rw c.page_cells-cells.ensures (part_length c.next_live_page-page.result s.sequences.now (omega (arith, page-lt, capacity-pages size))) in
-    omega (arith, part-long, c.if-c-ge-PAGE_SLOTS.false)
+bounds-cells-c c = omega (arith, part-long (goal.at.bounds-cells-c c).After-page_cells-cells, c.in-Some-slot_at.ensures.bounded)
 
 pub loop-page-smaller : goal.loop-page-smaller
-loop-page-smaller c =
-    let page-ge : c.loop-page.from ≤ c.next_live_page-page.result = next-ge _ _ _ _ _ _ c.loop-page.invariant.1 c.loop-page.invariant.0 c.next_live_page-page.ensures in
-    omega (arith, page-ge, c.if-stop-page.false)
+loop-page-smaller c = omega (arith, page-ge (goal.at.loop-page-smaller c).In-Some, c.in-Some.ensures.in_range)
 
 pub loop-page-preserved : goal.loop-page-preserved
 loop-page-preserved c =
-    let up_to : let s = c.args in
-    Passed (is_selected s.blocks.now s.w.nonempty_summary s.w.retired_blocks Live) (occupied_in s.pages.now s.start s.end) (s.start / 64) c.next_live_page-page.result = passed_to _ _ _ _ _ _ c.loop-page.invariant.1 c.loop-page.invariant.0 c.next_live_page-page.ensures in
     let e = word-is _ _ _ _ _ _ c.page_words-words.ensures c.bits_within.ensures in
-    (omega (arith, c.if-stop-page.false), passed-page _ _ _ _ (up_to) (sym e ∙ c.if-occupied-ne0.false))
+    (omega (arith, c.in-Some.ensures.in_range), passed-page _ _ _ _ (up_to (goal.at.loop-page-preserved c).In-Some) (sym e ∙ c.if-occupied-ne0.false))
 
-pub returns-then-stop-page : goal.returns-then-stop-page
-returns-then-stop-page c =
-    let up_to : let s = c.args in
-    Passed (is_selected s.blocks.now s.w.nonempty_summary s.w.retired_blocks Live) (occupied_in s.pages.now s.start s.end) (s.start / 64) c.next_live_page-page.result = passed_to _ _ _ _ _ _ c.loop-page.invariant.1 c.loop-page.invariant.0 c.next_live_page-page.ensures in
+pub returns-in_default : goal.returns-in_default
+returns-in_default c =
     let s = c.args in
     record {
-      gives = λ vs ok. walk-nothing s.w s.sequences.now vs s.pages.now s.blocks.now s.start s.end ok (omega arith) (omega arith) c.next_live_page-page.result (omega (arith, c.if-stop-page.true)) (up_to);
+      gives = λ vs ok. walk-nothing s.w s.sequences.now vs s.pages.now s.blocks.now s.start s.end ok (omega arith) (omega arith) _ (omega arith)
+          (passed_to _ _ _ _ _ _ c.loop-page.invariant.1 c.loop-page.invariant.0 c.in_default.ensures.first);
     }
 
-pub returns-then-words-eq0 : goal.returns-then-words-eq0
-returns-then-words-eq0 c =
-    let stop_le : (c.args.end - 1) / 64 + 1 ≤ page_count_of c.args.w.window_size = let s = c.args in omega (arith, capacity-pages s.w.window_size) in
-    let page-lt : c.next_live_page-page.result < page_count_of c.args.w.window_size = omega (arith, stop_le, c.if-stop-page.false) in
-    let selected : let s = c.args in is_selected s.blocks.now s.w.nonempty_summary s.w.retired_blocks Live c.next_live_page-page.result ≡ true = next-selected _ _ _ _ _ _ c.loop-page.invariant.1 c.loop-page.invariant.0 c.next_live_page-page.ensures c.if-stop-page.false in
+pub returns-then-words-eq-NONE : goal.returns-then-words-eq-NONE
+returns-then-words-eq-NONE c =
     let s = c.args in
+    let here = (goal.at.returns-then-words-eq-NONE c).In-Some in
     record {
       gives = λ vs ok.
-          let held = live-page s.w s.sequences.now vs s.pages.now s.blocks.now s.start s.end ok (omega arith) _ (page-lt) (selected) in
-          absurd (held.0 (ap (λ (x : PageWords). x.kind) (sym c.page_words-words.ensures) ∙ c.if-words-eq0.true));
+          let held = live-page s.w s.sequences.now vs s.pages.now s.blocks.now s.start s.end ok (omega arith) _ (page-lt here) (selected here) in
+          absurd (held.0 (ap (λ (x : PageWords). x.kind) (sym c.page_words-words.ensures) ∙ c.if-words-eq-NONE.true));
     }
 
-pub returns-then-c-ge-PAGE_SLOTS : goal.returns-then-c-ge-PAGE_SLOTS
-returns-then-c-ge-PAGE_SLOTS c =
-    let end-le : c.args.end ≤ capacity c.args.w.window_size = omega arith in
-    let stop_le : (c.args.end - 1) / 64 + 1 ≤ page_count_of c.args.w.window_size = let s = c.args in omega (arith, capacity-pages s.w.window_size) in
-    let page-lt : c.next_live_page-page.result < page_count_of c.args.w.window_size = omega (arith, stop_le, c.if-stop-page.false) in
-    let selected : let s = c.args in is_selected s.blocks.now s.w.nonempty_summary s.w.retired_blocks Live c.next_live_page-page.result ≡ true = next-selected _ _ _ _ _ _ c.loop-page.invariant.1 c.loop-page.invariant.0 c.next_live_page-page.ensures c.if-stop-page.false in
-    let up_to : let s = c.args in
-    Passed (is_selected s.blocks.now s.w.nonempty_summary s.w.retired_blocks Live) (occupied_in s.pages.now s.start s.end) (s.start / 64) c.next_live_page-page.result = passed_to _ _ _ _ _ _ c.loop-page.invariant.1 c.loop-page.invariant.0 c.next_live_page-page.ensures in
+pub returns-in_default-slot_at : goal.returns-in_default-slot_at
+returns-in_default-slot_at c =
     let s = c.args in
+    let here = (goal.at.returns-in_default-slot_at c).In-Some in
     let e = word-is _ _ _ _ _ _ c.page_words-words.ensures c.bits_within.ensures in
     record {
       gives = λ vs ok.
-          let l = walk-cell s.w s.sequences.now vs s.pages.now s.blocks.now s.start s.end ok (end-le) _ (page-lt) (selected) (up_to)
-          (λ z. c.if-occupied-ne0.true (e ∙ z)) _ _ _ _ _ c.page_words-words.ensures c.page_cells-cells.ensures c.bits_within.ensures c.lowest.ensures c.slot_at-c.ensures in
-          absurd (omega (arith, l, c.if-c-ge-PAGE_SLOTS.true));
+          absurd (walk-cell s.w s.sequences.now vs s.pages.now s.blocks.now s.start s.end ok (omega arith) _ (page-lt here) (selected here) (up_to here)
+          (λ z. c.if-occupied-ne0.true (e ∙ z)) _ _ _ _ _ c.page_words-words.ensures c.page_cells-cells.ensures c.bits_within.ensures c.lowest.ensures c.slot_at.ensures
+          c.in_default-slot_at.is);
     }
 
-pub returns-else-c-ge-PAGE_SLOTS : goal.returns-else-c-ge-PAGE_SLOTS
-returns-else-c-ge-PAGE_SLOTS c =
-    let end-le : c.args.end ≤ capacity c.args.w.window_size = omega arith in
-    let stop_le : (c.args.end - 1) / 64 + 1 ≤ page_count_of c.args.w.window_size = let s = c.args in omega (arith, capacity-pages s.w.window_size) in
-    let page-lt : c.next_live_page-page.result < page_count_of c.args.w.window_size = omega (arith, stop_le, c.if-stop-page.false) in
-    let selected : let s = c.args in is_selected s.blocks.now s.w.nonempty_summary s.w.retired_blocks Live c.next_live_page-page.result ≡ true = next-selected _ _ _ _ _ _ c.loop-page.invariant.1 c.loop-page.invariant.0 c.next_live_page-page.ensures c.if-stop-page.false in
-    let up_to : let s = c.args in
-    Passed (is_selected s.blocks.now s.w.nonempty_summary s.w.retired_blocks Live) (occupied_in s.pages.now s.start s.end) (s.start / 64) c.next_live_page-page.result = passed_to _ _ _ _ _ _ c.loop-page.invariant.1 c.loop-page.invariant.0 c.next_live_page-page.ensures in
+pub returns-in-Some-slot_at : goal.returns-in-Some-slot_at
+returns-in-Some-slot_at c =
     let s = c.args in
+    let here = (goal.at.returns-in-Some-slot_at c).In-Some in
     let e = word-is _ _ _ _ _ _ c.page_words-words.ensures c.bits_within.ensures in
     record {
       gives = λ vs ok.
-          walk-answer s.w s.sequences.now vs s.pages.now s.blocks.now s.start s.end ok (end-le) _ (page-lt) (selected) (up_to)
-          (λ z. c.if-occupied-ne0.true (e ∙ z)) _ _ _ _ _ c.page_words-words.ensures c.page_cells-cells.ensures c.bits_within.ensures c.lowest.ensures c.slot_at-c.ensures;
+          walk-answer s.w s.sequences.now vs s.pages.now s.blocks.now s.start s.end ok (omega arith) _ (page-lt here) (selected here) (up_to here)
+          (λ z. c.if-occupied-ne0.true (e ∙ z)) _ _ _ _ _ c.page_words-words.ensures c.page_cells-cells.ensures c.bits_within.ensures c.lowest.ensures c.slot_at.ensures
+          _ c.in-Some-slot_at.is;
     }
