@@ -12,6 +12,7 @@ use Rattle.words.specs.Word.{bit_at, clear_bit, lowest}
 use Rattle.words.proofs.BitLaws.{bit-lt, bit-zero, bit-suc, bit-none, bit-and, bit-or, bit_not, ext-bits}
 use Rattle.words.proofs.ChangeLaws.{with-same, with-other, with-lt}
 use Rattle.words.proofs.LowestLaws.{lowest-is, lowest-some}
+use borrow.Author.Tests.{eq-eqb}
 use Rattle.page_base.specs.declared.PageWords.{PageWords}
 use Rattle.page_base.proofs.FindLaws.{dense-slot}
 use Rattle.page_remove.specs.declared.drain.Drained.{Drained}
@@ -165,8 +166,8 @@ module _ (occupied : ℕ) (vs : List ℕ) (slots at limit : ℕ) (l₀ : List �
           subst (λ (x : ℕ). Draining n (dense_words occupied) ss vs slots at limit l₀ (set l (at + k) (get_or vs (lowest sel 0) 0)) (dense_words x) (k + 1) true)
           (left-clear occupied slots fits named sel t.small t.part (lowest sel 0) below here)
           (draining-turn n (dense_words occupied) ss vs slots at limit l₀ l (dense_words (left_of occupied slots sel)) k true (t.drains n ss) named room more
-          (λ z. some (sym same ∙ z)) (lowest sel 0) (lowest sel 0) (ap (λ (x : ℕ). lowest x 0) (sym same)) below
-          (record { bounded = omega (arith, below); cell = λ us ok. dense-slot n (dense_words (left_of occupied slots sel)) ss us ok (lowest sel 0) below refl held }));
+          (λ z. some (sym same ∙ z)) (lowest sel 0) (lowest sel 0) (ap (λ (x : ℕ). lowest x 0) (sym same))
+          (record { bounded = below; cell = λ us ok. dense-slot n (dense_words (left_of occupied slots sel)) ss us ok (lowest sel 0) below refl (eq-eqb _ _ held) }));
     }
       where
         below : lowest sel 0 < 64

@@ -1,6 +1,7 @@
 -- The loop that drains a page, over plain variables. Assumes nothing.
 use mathlib.Core.Path.{◌≡◌, refl, sym, ap, ap₂, ◌∙◌, subst}
 use mathlib.Core.Bool.{Bool, true, false}
+use Rattle.std.specs.Prelude.{None, Some}
 use mathlib.Core.List.{List, [], ◌∷◌, ◌++◌}
 use Prim.Native.Nat.{ℕ, suc, ◌+◌, ◌-◌, ◌%◌, ◌^◌, ◌≤◌, ◌<◌}
 use native.Mathlib.Omega.{arith}
@@ -140,9 +141,9 @@ module _ (n : ℕ) (w : PageWords) (ss vs : List ℕ) (slots at limit : ℕ) (l�
     (t : Draining n w ss vs slots at limit l₀ l left k sound) where
   -- one value more: it stood at the lowest position selected, in cell c
   pub draining-turn : slots < 2 ^ 64 → at + limit ≤ length l₀ → k < limit → (bit_and left.occupied slots ≡ 0 → ⊥)
-      → (q c : ℕ) → q ≡ lowest (bit_and left.occupied slots) 0 → c < 64 → SlotAt n left ss q c
+      → (q c : ℕ) → q ≡ lowest (bit_and left.occupied slots) 0 → SlotAt n left ss q (Some c)
       → Draining n w ss vs slots at limit l₀ (set l (at + k) (get_or vs c 0)) (taken_words left q c) (k + 1) sound
-  draining-turn fits room more some q c e inside slot =
+  draining-turn fits room more some q c e slot =
       let p = page left ss vs in
       let sel = bit_and left.occupied slots in
       let small : sel < 2 ^ 64 = omega (arith, and_le_r left.occupied slots) in
@@ -150,7 +151,7 @@ module _ (n : ℕ) (w : PageWords) (ss vs : List ℕ) (slots at limit : ℕ) (l�
       let taken : (ok : Placed n (page w ss vs)) → page (taken_words left q c) ss vs ≡ take_cell_of p (cell_of p (lowest sel 0)) = λ ok.
       page-taken left ss vs q c (ap (λ (x : ℕ). cells ss x % 64) (cell ok) ∙ first-at n slots p (t.placed ok) small some ∙ sym e) ∙ ap (take_cell_of p) (cell ok) in
       let value : Placed n (page w ss vs) → stretch at k l ++ (cells vs (cell_of p (lowest sel 0)) ∷ []) ≡ stretch at (k + 1) (set l (at + k) (get_or vs c 0)) = λ ok.
-      ap (λ (x : ℕ). stretch at k l ++ (x ∷ [])) (ap (cells vs) (sym (cell ok)) ∙ cell_in vs c inside)
+      ap (λ (x : ℕ). stretch at k l ++ (x ∷ [])) (ap (cells vs) (sym (cell ok)) ∙ cell_in vs c slot.bounded)
       ∙ sym (stretch-more at k (get_or vs c 0) l (omega (arith, t.wrote.long))) in
       record {
         wrote = wrote-more at k (get_or vs c 0) l₀ l t.wrote;
@@ -184,9 +185,9 @@ module _ (n : ℕ) (w : PageWords) (ss vs : List ℕ) (slots at limit : ℕ) (l�
   }
 
   -- an occupied position without a cell: the page's values are not in their places
-  pub draining-unsound : slots < 2 ^ 64 → (bit_and left.occupied slots ≡ 0 → ⊥) → (q c : ℕ) → q ≡ lowest (bit_and left.occupied slots) 0 → 64 ≤ c → SlotAt n left ss q c
+  pub draining-unsound : slots < 2 ^ 64 → (bit_and left.occupied slots ≡ 0 → ⊥) → (q : ℕ) → q ≡ lowest (bit_and left.occupied slots) 0 → SlotAt n left ss q None
       → Drains n w ss vs slots at limit l₀ (record { words = left; count = k; sound = false }) l
-  draining-unsound fits some q c e out slot =
+  draining-unsound fits some q e slot =
       let p = page left ss vs in
       let small : bit_and left.occupied slots < 2 ^ 64 = omega (arith, and_le_r left.occupied slots) in
       let never : Placed n (page w ss vs) → ⊥ = λ ok. omega (arith, slot.cell vs (t.placed ok) ∙ ap (cell_of p) e, first_cell n slots p (t.placed ok) small some) in

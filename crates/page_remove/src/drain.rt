@@ -5,11 +5,11 @@ ghost use Rattle.words.specs.Word.{lowest as lowest_of, clear_bit};
 ghost use Rattle.page_remove.specs.Promises.{Drains, DrainsDense, run_length_of};
 
 use crate::take_cell;
-use page_base::PageWords;
 use page_base::find::slot_at;
-use window::memory::PAGE_SLOTS;
+use page_base::{DENSE, PageWords};
 
 // The words of a page whose lowest values were taken out, how many they were, and whether each occupied position met had a cell.
+// `sound` is a flag beside them, and no Result around them, since what was handed back before is told on an unsound page too.
 #[derive(Clone, Copy)]
 pub struct Drained {
     pub words: PageWords,
@@ -31,10 +31,7 @@ fn run_length(selected: u64, from: usize, most: usize) -> usize
     ensures { result ≡ run_length_of selected from most }
 {
     let n = words::lowest(!selected, from) - from;
-    if most < n {
-        return most;
-    }
-    n
+    n.min(most)
 }
 
 // The values of `n` cells in a row from `from` on, into `returned` from `at` on.
@@ -42,11 +39,7 @@ fn copy_values(values: &[u32], returned: &mut [u32], from: usize, at: usize, n: 
     requires { (from + n ≤ length values.now) × (at + n ≤ length returned.old) }
     ensures { returned.new ≡ paste returned.old at (drop from values.now) n }
 {
-    let mut i: usize = 0;
-    while i < n {
-        returned[at + i] = values[from + i];
-        i += 1;
-    }
+    returned[at..at + n].copy_from_slice(&values[from..from + n]);
 }
 
 // The drain of a dense page, whose cells are its positions: nothing is searched for, the values of positions in a row are copied
@@ -83,7 +76,7 @@ fn drain_dense(
     let left = (occupied & !slots) | selected;
     Drained {
         words: PageWords {
-            kind: 2,
+            kind: DENSE,
             occupied: left,
             filled: left,
         },
@@ -110,17 +103,15 @@ fn drain_searched(
     let mut count: usize = 0;
     let mut sound = true;
     while count < limit {
-        let occupied = left.occupied;
-        let selected = occupied & slots;
+        let selected = left.occupied & slots;
         if selected == 0 {
             break;
         }
         let slot = words::lowest(selected, 0);
-        let c = slot_at(sequences, left, n, slot);
-        if PAGE_SLOTS <= c {
+        let Some(c) = slot_at(sequences, left, n, slot) else {
             sound = false;
             break;
-        }
+        };
         returned[at + count] = values[c];
         left = take_cell(left, slot, c);
         count += 1;
@@ -146,13 +137,8 @@ pub fn drain(
     requires { (length sequences.now ≡ 64) × (length values.now ≡ 64) × (n < 64) × (at + limit ≤ length returned.old) }
     ensures { Drains n w sequences.now values.now slots at limit returned.old result returned.new }
 {
-    let kind = w.kind;
-    let occupied = w.occupied;
-    let filled = w.filled;
-    if kind == 2 {
-        if filled == occupied {
-            return drain_dense(values, returned, occupied, slots, at, limit);
-        }
+    if w.kind == DENSE && w.filled == w.occupied {
+        return drain_dense(values, returned, w.occupied, slots, at, limit);
     }
     drain_searched(sequences, values, returned, w, n, slots, at, limit)
 }

@@ -11,9 +11,8 @@ ghost use Rattle.page_base.specs.Page.{cells as cells_of, page as page_of};
 ghost use Rattle.page_remove.specs.Remove.{packed_cells, taken_words, settled_of, settle_page_of};
 ghost use Rattle.page_remove.specs.Promises.{Removes};
 
-use page_base::find::{Read, find};
-use page_base::{Left, PageWords};
-use window::memory::PAGE_SLOTS;
+use page_base::find::find;
+use page_base::{DENSE, Left, NONE, PageWords, SPARSE};
 
 // The words of a page after a removal, and what it left there.
 #[derive(Clone, Copy)]
@@ -22,11 +21,11 @@ pub struct Settled {
     pub left: Left,
 }
 
-// The same, and what the removal answers.
+// The same, and the value that the removal took out.
 #[derive(Clone, Copy)]
 pub struct Removed {
     pub words: PageWords,
-    pub answer: Read,
+    pub answer: Option<u32>,
     pub left: Left,
 }
 
@@ -69,7 +68,7 @@ fn demote(sequences: &mut [u32], values: &mut [u32], w: PageWords) -> PageWords
     pack(sequences, occupied);
     pack(values, occupied);
     PageWords {
-        kind: 1,
+        kind: SPARSE,
         occupied,
         filled,
     }
@@ -81,11 +80,10 @@ pub fn settle(sequences: &mut [u32], values: &mut [u32], w: PageWords, demote_at
     requires { (length sequences.old ≡ 64) × (length values.old ≡ 64) }
     ensures { settled_of result sequences.new values.new ≡ settle_page_of demote_at (page_of w sequences.old values.old) }
 {
-    let kind = w.kind;
-    let occupied = w.occupied;
-    if occupied == 0 {
+    let emptied = w.occupied == 0;
+    if emptied {
         let empty = PageWords {
-            kind: 0,
+            kind: NONE,
             occupied: 0,
             filled: 0,
         };
@@ -95,16 +93,14 @@ pub fn settle(sequences: &mut [u32], values: &mut [u32], w: PageWords, demote_at
         };
         return Settled { words: empty, left };
     }
-    let count = words::count(occupied);
-    if kind == 2 {
-        if count <= demote_at {
-            let words = demote(sequences, values, w);
-            let left = Left {
-                values: count,
-                demoted: true,
-            };
-            return Settled { words, left };
-        }
+    let count = words::count(w.occupied);
+    if w.kind == DENSE && count <= demote_at {
+        let words = demote(sequences, values, w);
+        let left = Left {
+            values: count,
+            demoted: true,
+        };
+        return Settled { words, left };
     }
     let left = Left {
         values: count,
@@ -126,26 +122,23 @@ pub fn remove(
     ensures { Removes n demote_at w sequences.old values.old sequence result sequences.new values.new }
 {
     let slot = (sequence % 64) as usize;
-    let c = find(sequences, w, n, sequence);
-    if PAGE_SLOTS <= c {
+    let Some(c) = find(sequences, w, n, sequence) else {
         let left = Left {
             values: words::count(w.occupied),
             demoted: false,
         };
         return Removed {
             words: w,
-            answer: Read::Absent,
+            answer: None,
             left,
         };
-    }
+    };
     let value = values[c];
     let taken = take_cell(w, slot, c);
     let s = settle(sequences, values, taken, demote_at);
-    let words = s.words;
-    let left = s.left;
     Removed {
-        words,
-        answer: Read::Value(value),
-        left,
+        words: s.words,
+        answer: Some(value),
+        left: s.left,
     }
 }

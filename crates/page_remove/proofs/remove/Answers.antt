@@ -1,7 +1,6 @@
 -- By whether the sequence is found: without it the page is as it was, with it the page settles without its cell. Assumes nothing.
-use mathlib.Core.Path.{◌≡◌, sym, ap, ◌∙◌}
-use Prim.Native.Nat.{ℕ, ◌%◌, ◌<◌}
-use native.Mathlib.Omega.{arith}
+use Rattle.std.proofs.Common.{ℕ, ◌%◌, ◌≡◌, ◌∙◌, sym, ap}
+use native.Mathlib.Nat.{le_refl}
 use Rattle.page_base.specs.declared.PageWords.{PageWords}
 use Rattle.page_base.specs.Page.{cells, page}
 use Rattle.page_base.proofs.PartLaws.{cell_in}
@@ -10,19 +9,19 @@ use Rattle.page_remove.specs.Remove.{settle_page_of}
 use Rattle.page_remove.proofs.SettleLaws.{page-taken, remove-found, remove_absent}
 use Rattle.page_remove.proofs.remove.Goals as goal
 
-pub returns-then-c-ge-PAGE_SLOTS : goal.returns-then-c-ge-PAGE_SLOTS
-returns-then-c-ge-PAGE_SLOTS c =
-    record { gives = λ ok. remove_absent _ _ _ _ _ (c.find-c.ensures.cell _ ok) c.if-c-ge-PAGE_SLOTS.true c.count.ensures }
+pub returns-in_default : goal.returns-in_default
+returns-in_default c =
+    record { gives = λ ok. remove_absent _ _ _ _ _ (c.in_default.ensures.cell _ ok) (le_refl 64) c.count.ensures }
 
 pub returns : goal.returns
 returns c =
     let s = c.args in
     let p = page s.w s.sequences.now s.values.now in
-    let cell = c.find-c.result in
-    let l : cell < 64 = omega arith in
+    let cell = c.in-Some.c in
+    let l = c.in-Some.ensures.bounded in
     record {
       gives = λ ok.
-          let e = c.find-c.ensures.cell _ ok in
+          let e = c.in-Some.ensures.cell _ ok in
           let q : cells s.sequences.now cell % 64 ≡ s.sequence % 64 = ap (λ (x : ℕ). x % 64) (with_cell p s.sequence _ e l).1 in
           remove-found s.demote_at p s.sequence _ _ _ e l (sym (cell_in s.values.now _ l))
           (c.settle-s.ensures ∙ ap (λ (x : PageWords). settle_page_of s.demote_at (page x s.sequences.now s.values.now)) c.take_cell-taken.ensures

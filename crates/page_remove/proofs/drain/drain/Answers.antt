@@ -2,6 +2,5 @@
 use Rattle.page_remove.proofs.DenseLaws.{dense-drains}
 use Rattle.page_remove.proofs.drain.drain.Goals as goal
 
-pub returns-then-filled-occupied : goal.returns-then-filled-occupied
-returns-then-filled-occupied c =
-    dense-drains _ _ _ _ _ _ _ _ _ _ c.if-kind-eq2.true c.if-filled-occupied.true c.drain_dense.ensures
+pub returns-then-w : goal.returns-then-w
+returns-then-w c = dense-drains _ _ _ _ _ _ _ _ _ _ c.if-w-eq-DENSE.true c.if-w.true c.drain_dense.ensures

@@ -1,6 +1,4 @@
-use mathlib.Core.Path.{◌≡◌, ap, ◌∙◌}
-use Prim.Native.Nat.{ℕ, ◌-◌, ◌≤◌, ◌<◌}
-use native.Mathlib.Omega.{arith}
+use Rattle.std.proofs.Common.{ℕ, ◌≡◌, ◌∙◌, ◌^◌, ◌≤◌, ◌<◌, ap, arith}
 use Rattle.words.specs.Word.{lowest}
 use Rattle.words.proofs.LowestLaws.{lowest-some}
 use Rattle.page_remove.specs.Promises.{run_length_of}
@@ -9,91 +7,66 @@ use Rattle.page_remove.proofs.RunLaws.{Run, run-selected, dense-turns}
 use Rattle.page_remove.proofs.drain.drain_dense.Goals as goal
 use Rattle.page_remove.proofs.drain.drain_dense.Goals.{else-loop-selected-test, then-loop-selected-test+then-limit-count}
 
--- the run from there on
-abbrev Runs : (selected from n most : ℕ) → Type 0
-Runs selected from n most = (0 < n) × (n ≤ most) × (from ≡ lowest selected 0) × Run selected n
+module _ (selected from : ℕ) (small : selected < 2 ^ 64) (some : selected ≡ 0 → ⊥) (low : from ≡ lowest selected 0) where
+  -- the lowest selected position is one of the page
+  below : from < 64
+  below = rw low (lowest-some selected small some)
+
+  -- the run from there on
+  runs : (n most : ℕ) → 0 < most → n ≡ run_length_of selected from most → (0 < n) × (n ≤ most) × (from ≡ lowest selected 0) × Run selected n
+  runs n most room e =
+      let same : n ≡ run_length_of selected (lowest selected 0) most = e ∙ ap (λ (x : ℕ). run_length_of selected x most) low in
+      let r = run-selected selected most small some room in
+      rw same (r.0, r.1, low, r.2)
 
 pub loop-selected-init : goal.loop-selected-init
 loop-selected-init c = dense-begins _ _ _ _ _ _ (omega arith) (omega arith)
 
 pub run_length-n-requires : goal.run_length-n-requires
-run_length-n-requires c =
-    let below : c.lowest-from.result < 64 = rw c.lowest-from.ensures (lowest-some _ c.loop-selected.invariant.small c.loop-selected-test.true) in
-    below
+run_length-n-requires c = below _ _ c.loop-selected.invariant.small c.loop-selected-test.true c.lowest-from.ensures
 
 pub offset_bounds-values-from : goal.offset_bounds-values-from
 offset_bounds-values-from c =
-    let below : c.lowest-from.result < 64 = rw c.lowest-from.ensures (lowest-some _ c.loop-selected.invariant.small c.loop-selected-test.true) in
-    omega (arith, below)
+    omega (arith, below _ _ c.loop-selected.invariant.small c.loop-selected-test.true c.lowest-from.ensures)
 
 pub bounds-values-from : goal.bounds-values-from
-bounds-values-from c =
-    let below : c.lowest-from.result < 64 = rw c.lowest-from.ensures (lowest-some _ c.loop-selected.invariant.small c.loop-selected-test.true) in
-    omega (arith, below)
+bounds-values-from c = omega (arith, below _ _ c.loop-selected.invariant.small c.loop-selected-test.true c.lowest-from.ensures)
 
 pub loop-selected-preserved-then-n-eq1 : goal.loop-selected-preserved-then-n-eq1
 loop-selected-preserved-then-n-eq1 c =
-    let i = c.loop-selected.invariant in
     rw (c.clear_lowest-selected.ensures, c.lowest-from.ensures)
-    (dense-turn _ _ _ _ _ _ (omega arith) (omega arith) _ _ _ i (omega arith) (omega arith) c.loop-selected-test.true)
+    (dense-turn _ _ _ _ _ _ (omega arith) (omega arith) _ _ _ c.loop-selected.invariant (omega arith) (omega arith) c.loop-selected-test.true)
 
 pub copy_values-requires : goal.copy_values-requires
 copy_values-requires c =
-    let runs : Runs c.loop-selected.selected c.lowest-from.result c.run_length-n.result
-    (c.args.limit - c.loop-selected.count) = let i = c.loop-selected in
-    let most = c.args.limit - i.count in
-    let low = c.lowest-from.ensures in
-    let same : c.run_length-n.result ≡ run_length_of i.selected (lowest i.selected 0) most = c.run_length-n.ensures ∙ ap (λ (x : ℕ). run_length_of i.selected x most) low in
-    let r = run-selected i.selected most i.invariant.small c.loop-selected-test.true (omega arith) in
-    rw same (r.0, r.1, low, r.2) in
-    let r = runs in (omega (arith, r.2, r.3.0), omega (arith, r.1))
+    let i = c.loop-selected in
+    let r = runs _ _ i.invariant.small c.loop-selected-test.true c.lowest-from.ensures _ _ (omega arith) c.run_length-n.ensures in
+    (omega (arith, r.2, r.3.0), omega (arith, r.1))
 
 pub overflow_add-from : goal.overflow_add-from
 overflow_add-from c =
-    let runs : Runs c.loop-selected.selected c.lowest-from.result c.run_length-n.result
-    (c.args.limit - c.loop-selected.count) = let i = c.loop-selected in
-    let most = c.args.limit - i.count in
-    let low = c.lowest-from.ensures in
-    let same : c.run_length-n.result ≡ run_length_of i.selected (lowest i.selected 0) most = c.run_length-n.ensures ∙ ap (λ (x : ℕ). run_length_of i.selected x most) low in
-    let r = run-selected i.selected most i.invariant.small c.loop-selected-test.true (omega arith) in
-    rw same (r.0, r.1, low, r.2) in
-    let r = runs in omega (arith, r.2, r.3.0)
+    let i = c.loop-selected in
+    let r = runs _ _ i.invariant.small c.loop-selected-test.true c.lowest-from.ensures _ _ (omega arith) c.run_length-n.ensures in
+    omega (arith, r.2, r.3.0)
 
 pub span-requires : goal.span-requires
 span-requires c =
-    let runs : Runs c.loop-selected.selected c.lowest-from.result c.run_length-n.result
-    (c.args.limit - c.loop-selected.count) = let i = c.loop-selected in
-    let most = c.args.limit - i.count in
-    let low = c.lowest-from.ensures in
-    let same : c.run_length-n.result ≡ run_length_of i.selected (lowest i.selected 0) most = c.run_length-n.ensures ∙ ap (λ (x : ℕ). run_length_of i.selected x most) low in
-    let r = run-selected i.selected most i.invariant.small c.loop-selected-test.true (omega arith) in
-    rw same (r.0, r.1, low, r.2) in
-    let r = runs in (omega (arith, r.0), omega (arith, r.2, r.3.0))
+    let i = c.loop-selected in
+    let r = runs _ _ i.invariant.small c.loop-selected-test.true c.lowest-from.ensures _ _ (omega arith) c.run_length-n.ensures in
+    (omega (arith, r.0), omega (arith, r.2, r.3.0))
 
 pub loop-selected-smaller : goal.loop-selected-smaller
 loop-selected-smaller c =
-    let runs : Runs c.loop-selected.selected c.lowest-from.result c.run_length-n.result
-    (c.args.limit - c.loop-selected.count) = let i = c.loop-selected in
-    let most = c.args.limit - i.count in
-    let low = c.lowest-from.ensures in
-    let same : c.run_length-n.result ≡ run_length_of i.selected (lowest i.selected 0) most = c.run_length-n.ensures ∙ ap (λ (x : ℕ). run_length_of i.selected x most) low in
-    let r = run-selected i.selected most i.invariant.small c.loop-selected-test.true (omega arith) in
-    rw same (r.0, r.1, low, r.2) in
-    let r = runs in omega (arith, r.0, r.1)
+    let i = c.loop-selected in
+    let r = runs _ _ i.invariant.small c.loop-selected-test.true c.lowest-from.ensures _ _ (omega arith) c.run_length-n.ensures in
+    omega (arith, r.0, r.1)
 
 pub loop-selected-preserved : goal.loop-selected-preserved
 loop-selected-preserved c =
-    let runs : Runs c.loop-selected.selected c.lowest-from.result c.run_length-n.result
-    (c.args.limit - c.loop-selected.count) = let i = c.loop-selected in
-    let most = c.args.limit - i.count in
-    let low = c.lowest-from.ensures in
-    let same : c.run_length-n.result ≡ run_length_of i.selected (lowest i.selected 0) most = c.run_length-n.ensures ∙ ap (λ (x : ℕ). run_length_of i.selected x most) low in
-    let r = run-selected i.selected most i.invariant.small c.loop-selected-test.true (omega arith) in
-    rw same (r.0, r.1, low, r.2) in
-    let r = runs in
-    let i = c.loop-selected.invariant in
+    let i = c.loop-selected in
+    let r = runs _ _ i.invariant.small c.loop-selected-test.true c.lowest-from.ensures _ _ (omega arith) c.run_length-n.ensures in
     rw (c.copy_values.ensures, c.span.ensures, r.2)
-    (dense-turns _ _ _ _ _ _ _ (omega arith) (omega arith) _ _ i (omega arith) (omega arith) c.run_length-n.result (omega (arith, r.1)) r.3)
+    (dense-turns _ _ _ _ _ _ _ (omega arith) (omega arith) _ _ i.invariant (omega arith) (omega arith) c.run_length-n.result (omega (arith, r.1)) r.3)
 
 pub shape_of-returned : goal.shape_of-returned
 shape_of-returned c = c.loop-selected.invariant.long

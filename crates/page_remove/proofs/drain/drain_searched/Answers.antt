@@ -9,8 +9,8 @@ use Rattle.page_remove.proofs.drain.drain_searched.Goals as goal
 pub loop-count-init : goal.loop-count-init
 loop-count-init c = draining-begins _ _ _ _ _ _ _ _
 
-pub slot_at-c-requires : goal.slot_at-c-requires
-slot_at-c-requires c =
+pub slot_at-requires : goal.slot_at-requires
+slot_at-requires c =
     let inside : c.lowest-slot.result < 64 = let a = c.args in
     rw c.lowest-slot.ensures (lowest-some _ (omega (arith, and_le_r c.loop-count.left.occupied a.slots)) c.if-selected-eq0.false) in
     (search rules, search rules, inside)
@@ -25,7 +25,7 @@ pub loop-count-preserved : goal.loop-count-preserved
 loop-count-preserved c =
     rw c.take_cell-left.ensures
     (draining-turn _ _ _ _ _ _ _ _ _ _ _ _ c.loop-count.invariant (omega arith) (omega arith) c.loop-count-test.true c.if-selected-eq0.false _ _
-    c.lowest-slot.ensures (omega arith) c.slot_at-c.ensures)
+    c.lowest-slot.ensures c.in-Some.ensures)
 
 pub returns-after-loop-count : goal.returns-after-loop-count
 returns-after-loop-count c = draining-ends _ _ _ _ _ _ _ _ _ _ _ _ c.loop-count.invariant c.loop-count-test.false
@@ -33,7 +33,7 @@ returns-after-loop-count c = draining-ends _ _ _ _ _ _ _ _ _ _ _ _ c.loop-count.
 pub returns-then-selected-eq0 : goal.returns-then-selected-eq0
 returns-then-selected-eq0 c = draining-empty _ _ _ _ _ _ _ _ _ _ _ _ c.loop-count.invariant c.if-selected-eq0.true
 
-pub returns-then-c-ge-PAGE_SLOTS : goal.returns-then-c-ge-PAGE_SLOTS
-returns-then-c-ge-PAGE_SLOTS c =
-    draining-unsound _ _ _ _ _ _ _ _ _ _ _ _ c.loop-count.invariant (omega arith) c.if-selected-eq0.false _ _ c.lowest-slot.ensures c.if-c-ge-PAGE_SLOTS.true
-    c.slot_at-c.ensures
+pub returns-in_default : goal.returns-in_default
+returns-in_default c =
+    draining-unsound _ _ _ _ _ _ _ _ _ _ _ _ c.loop-count.invariant (omega arith) c.if-selected-eq0.false _ c.lowest-slot.ensures
+    c.in_default.ensures
