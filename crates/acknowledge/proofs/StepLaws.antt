@@ -37,7 +37,7 @@ row-sequence base d k l = omega arith
 
 -- ---- the page of a sequence; p is its position, r is what `reachable` says of its page
 
-module _ (h : AdaptiveReceiverPacketWindow) (ss pages blocks : List ℕ) (s p r : ℕ)
+module _ (h : AdaptiveReceiverPacketWindow) (ss pages blocks : List ℕ) (s p : ℕ) (r : Bool)
     (e : p ≡ position h.window_size s) (reach : Reachable h blocks (p / 64) r) where
   abbrev m : List ℕ → Memory
   m vs = memory ss vs pages blocks
@@ -49,7 +49,7 @@ module _ (h : AdaptiveReceiverPacketWindow) (ss pages blocks : List ℕ) (s p r 
   at_row : (j : ℕ) → j < 64 → position h.window_size (64 * (s / 64) + j) ≡ 64 * (p / 64) + j
   at_row j l = row-position h.window_size s j l ∙ ap (λ (x : ℕ). 64 * (x / 64) + j) (sym e)
 
-  pub run-unreachable : r ≡ 0 → (q : ℕ) → q ≡ s % 64 → LiveRun h ss pages blocks s q
+  pub run-unreachable : r ≡ false → (q : ℕ) → q ≡ s % 64 → LiveRun h ss pages blocks s q
   run-unreachable z q i = record {
     from = omega arith;
     top = omega arith;
@@ -62,7 +62,7 @@ module _ (h : AdaptiveReceiverPacketWindow) (ss pages blocks : List ℕ) (s p r 
   }
 
   -- q is what the page gave, by its words and its part of the list
-  pub run-reached : (r ≡ 0 → ⊥) → (w : PageWords) (cs : List ℕ) (q : ℕ) → w ≡ words_at pages (p / 64) → cs ≡ part_of (p / 64) ss
+  pub run-reached : r ≡ true → (w : PageWords) (cs : List ℕ) (q : ℕ) → w ≡ words_at pages (p / 64) → cs ≡ part_of (p / 64) ss
       → Runs h.n w cs (s % 64) (s / 64) q → LiveRun h ss pages blocks s q
   run-reached n w cs q ew ec t =
       let u = subst (λ (x : PageWords). Runs h.n x (part_of (p / 64) ss) (s % 64) (s / 64) q) ew (subst (λ (x : List ℕ). Runs h.n w x (s % 64) (s / 64) q) ec t) in

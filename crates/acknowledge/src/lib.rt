@@ -30,7 +30,7 @@ fn live_run(
 {
     let page = position(w.window_size, sequence) / PAGE_SLOTS;
     let slot = (sequence % 64) as usize;
-    if reachable(w, blocks, page) == 0 {
+    if !reachable(w, blocks, page) {
         return slot;
     }
     let words = page_words(pages, page);
@@ -147,11 +147,11 @@ fn first_covered(size: u32, base: u32, first: u32, count: usize) -> u32
     requires { (size ≤ 65536) × (count ≤ capacity size) }
     ensures { result ≡ least_covered (capacity size) (position_of size first) count (position_of size base) }
 {
-    let past = position(size, std::num::wrapping_sub_u32(base, first));
+    let past = position(size, base.wrapping_sub(first));
     if past < count {
         return 0;
     }
-    position(size, std::num::wrapping_sub_u32(first, base)) as u32
+    position(size, first.wrapping_sub(base)) as u32
 }
 
 // After a range was removed from a window of this size: where it covers a position before the point, the first of these becomes the

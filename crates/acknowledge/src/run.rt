@@ -12,12 +12,10 @@ fn dense_run(sequences: &[u32], filled: u64, slot: usize, row: u32) -> usize
     ensures { DenseRun sequences.now filled slot row result }
 {
     let end = words::lowest(!filled, slot);
-    let mut c = slot;
-    while c < end {
+    for c in slot..end {
         if sequences[c] / 64 != row {
             return c;
         }
-        c += 1;
     }
     end
 }
@@ -28,15 +26,11 @@ fn row_mask(sequences: &[u32], filled: u64, n: usize, row: u32) -> u64
     ensures { Masks sequences.now filled row n result }
 {
     let mut mask: u64 = 0;
-    let mut c: usize = 0;
-    while c < n {
+    for c in 0..n {
         let sequence = sequences[c];
-        if sequence / 64 == row {
-            if words::bit(filled, c) == 1 {
-                mask = words::set(mask, (sequence % 64) as usize);
-            }
+        if sequence / 64 == row && words::bit(filled, c) {
+            mask = words::set(mask, (sequence % 64) as usize);
         }
-        c += 1;
     }
     mask
 }
@@ -49,7 +43,7 @@ pub fn page_run(sequences: &[u32], w: PageWords, n: usize, slot: usize, row: u32
     let kind = w.kind;
     let occupied = w.occupied;
     let filled = w.filled;
-    if words::bit(occupied, slot) == 0 {
+    if !words::bit(occupied, slot) {
         return slot;
     }
     if kind == 2 {

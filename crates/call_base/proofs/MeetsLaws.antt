@@ -1,17 +1,13 @@
 -- How a call is shown to meet the contract of every call: a refusal for its header, lists and arguments, as `admits` gives it, or else
 -- what it does once it is admitted. Assumes nothing.
 use Rattle.std.proofs.Common.{◌≡◌, ℕ, zero, suc, ◌+◌, ◌≤◌, Bool, true, false, ◌&&◌, leb, List, [], length, drop, sym, refl, ap, ◌∙◌, subst, true≢false, arith, leb-true}
-use denote.Enum.Declared.{tag_of}
 use Rattle.window.specs.declared.AdaptiveReceiverPacketWindow.{AdaptiveReceiverPacketWindow}
 use Rattle.window.specs.declared.answers.Answer.{Answer}
 use Rattle.window.specs.declared.answers.Step.{Step}
 use Rattle.window.specs.declared.refusals.Refusal.{Refusal}
-use Rattle.window.specs.declared.refusals.Verdict.{Verdict}
-use Rattle.window.specs.declared.refusals.Verdict.TheVariants.{Refuse}
-use Rattle.window.specs.Refusals.{refusal_number_of, verdict_number, fits_with_list_of, Fits}
-use Rattle.window.proofs.RefusalLaws.{refuses, fits-is}
-use Rattle.window.specs.contracts.refusals.Verdict as verdict
-use Rattle.window.proofs.VerdictLaws.{passes}
+use Rattle.std.specs.Prelude.{Result}
+use Rattle.window.specs.Refusals.{refusal_number_of, fits_with_list_of, Fits}
+use Rattle.window.proofs.RefusalLaws.{some-refusal, fits-is}
 use Rattle.model.specs.Calls as model
 use Rattle.model.specs.Calls.{Query, Call, ask, refused}
 use Rattle.model.specs.Roles.{asked_of, role_of}
@@ -186,25 +182,26 @@ both-6 true false rest = refl
 both-6 false true rest = refl
 both-6 false false rest = refl
 
--- t is the verdict on call c in state u, with `places` in its return list
-module _ (c : Call) (u : State) (places : ℕ) (listed : has_places (role_of c).listed ≡ leb 384 places) (t : Verdict)
-    (test : verdict_number t ≡ admission u.header (length u.memory.sequences) (length u.memory.values) (length u.memory.pages) (length u.memory.blocks) places (role_of c).arguments) where
-  pub is-refusal : verdict_number t ≡ refusal u c
+-- what `admits` tests of call c in state u, with `places` in its return list, is its refusal
+module _ (c : Call) (u : State) (places : ℕ) (listed : has_places (role_of c).listed ≡ leb 384 places) where
+  tested-refusal : admission u.header (length u.memory.sequences) (length u.memory.values) (length u.memory.pages) (length u.memory.blocks) places (role_of c).arguments ≡ refusal u c
   unfolding fits_with_list_of
-  is-refusal =
-      test ∙ both-6 (leb 384 places) (lengths_fit u) (refused_for_of (known_by u.header) (role_of c).arguments)
+  tested-refusal =
+      both-6 (leb 384 places) (lengths_fit u) (refused_for_of (known_by u.header) (role_of c).arguments)
       ∙ ap (λ (b : Bool). first 6 (lengths_fit u) (first 6 b (refused_for_of (known_by u.header) (role_of c).arguments))) (sym listed)
 
   -- it refuses
-  pub refusal-meets : (l : List ℕ) (why : Refusal) (r : Step) → t ≡ Refuse why → r ≡ refused_by u.header why → Meets c u l (left_of r u.memory l)
+  pub refusal-meets : (l : List ℕ) (why : Refusal) (r : Step)
+      → refusal_number_of why ≡ admission u.header (length u.memory.sequences) (length u.memory.values) (length u.memory.pages) (length u.memory.blocks) places (role_of c).arguments
+      → r ≡ refused_by u.header why → Meets c u l (left_of r u.memory l)
   refusal-meets l why r e q =
       subst (λ (x : Step). Meets c u l (left_of x u.memory l)) (sym q)
-      (refused-meets c u l (refusal_number_of why) (sym is-refusal ∙ ap verdict_number e) (refuses (Refuse why) why refl))
+      (refused-meets c u l (refusal_number_of why) (sym (e ∙ tested-refusal)) (some-refusal why))
 
   -- it passes
-  module _ (pass : tag_of verdict.the_type t ≡ 0) where
+  module _ (pass : 0 ≡ admission u.header (length u.memory.sequences) (length u.memory.values) (length u.memory.pages) (length u.memory.blocks) places (role_of c).arguments) where
     pub none-applies : refusal u c ≡ 0
-    none-applies = sym is-refusal ∙ passes t pass
+    none-applies = sym (pass ∙ tested-refusal)
 
     -- header and lists fit, the return list has 384 places, and the arguments are taken
     pub admitted-fits : Fits u.header (length u.memory.sequences) (length u.memory.values) (length u.memory.pages) (length u.memory.blocks)
@@ -234,24 +231,25 @@ module _ (c : Call) (u : State) (places : ℕ) (listed : has_places (role_of c).
 
 -- ---- queries
 
-module _ (q : Query) (u : State) (t : Verdict)
-    (test : verdict_number t ≡ admission u.header (length u.memory.sequences) (length u.memory.values) (length u.memory.pages) (length u.memory.blocks) 384 (asked_of q).arguments) where
-  pub asked-refusal : (why : Refusal) (r : Step) → t ≡ Refuse why → r ≡ refused_by u.header why → Meets (ask q) u [] (left_of r u.memory [])
-  asked-refusal = refusal-meets (ask q) u 384 refl t test []
+module _ (q : Query) (u : State) where
+  pub asked-refusal : (why : Refusal) (r : Step)
+      → refusal_number_of why ≡ admission u.header (length u.memory.sequences) (length u.memory.values) (length u.memory.pages) (length u.memory.blocks) 384 (asked_of q).arguments
+      → r ≡ refused_by u.header why → Meets (ask q) u [] (left_of r u.memory [])
+  asked-refusal = refusal-meets (ask q) u 384 refl []
 
-  module _ (pass : tag_of verdict.the_type t ≡ 0) where
+  module _ (pass : 0 ≡ admission u.header (length u.memory.sequences) (length u.memory.values) (length u.memory.pages) (length u.memory.blocks) 384 (asked_of q).arguments) where
     pub asked-fits : Fits u.header (length u.memory.sequences) (length u.memory.values) (length u.memory.pages) (length u.memory.blocks)
-    asked-fits = admitted-fits (ask q) u 384 refl t test pass
+    asked-fits = admitted-fits (ask q) u 384 refl pass
 
     pub asked-arguments : refused_for_of (known_by u.header) (asked_of q).arguments ≡ 0
-    asked-arguments = admitted-arguments (ask q) u 384 refl t test pass
+    asked-arguments = admitted-arguments (ask q) u 384 refl pass
 
-    pub checked-meets : (a : Answer) (r : Step) → r ≡ replied u.header a → ((asked_of q).checks ≡ true → (SoundWithPoint (window_of u) → ⊥) → answer_of a ≡ refused 7)
+    pub checked-meets : (a : Result Answer Refusal) (r : Step) → r ≡ replied u.header a → ((asked_of q).checks ≡ true → (SoundWithPoint (window_of u) → ⊥) → answer_of a ≡ refused 7)
         → (SoundWithPoint (window_of u) → answer_of a ≡ window_answer (window_of u) q) → Meets (ask q) u [] (left_of r u.memory [])
     checked-meets a r e unsound tells =
         subst (λ (x : Step). Meets (ask q) u [] (left_of x u.memory [])) (sym e)
-        (read_meets q u (answer_of a) unsound (none-applies (ask q) u 384 refl t test pass) tells)
+        (read_meets q u (answer_of a) unsound (none-applies (ask q) u 384 refl pass) tells)
 
     -- one that does not look at the point
-    pub asked-meets : (a : Answer) (r : Step) → r ≡ replied u.header a → (asked_of q).checks ≡ false → Tells q u a → Meets (ask q) u [] (left_of r u.memory [])
+    pub asked-meets : (a : Result Answer Refusal) (r : Step) → r ≡ replied u.header a → (asked_of q).checks ≡ false → Tells q u a → Meets (ask q) u [] (left_of r u.memory [])
     asked-meets a r e other tells = checked-meets a r e (λ k. absurd (true≢false (sym k ∙ other))) (λ ok. tells ok.sound)

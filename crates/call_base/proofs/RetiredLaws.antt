@@ -1,5 +1,5 @@
 -- Whether a page is retired, on a sound window: nothing is while no retired value is held. Assumes nothing.
-use Rattle.std.proofs.Common.{◌≡◌, ℕ, zero, suc, ◌-◌, ◌/◌, ◌%◌, ◌<◌, true, false, not, eqb, List, sym, refl, ap, ◌∙◌, arith, eqb-true}
+use Rattle.std.proofs.Common.{◌≡◌, ℕ, ◌/◌, ◌%◌, ◌<◌, true, false, not, eqb, List, sym, refl, ap, ◌∙◌, arith, eqb-true}
 use Rattle.words.proofs.CaseLaws.{bool}
 use Rattle.words.specs.Word.{is_set}
 use Rattle.words.proofs.BitLaws.{bit-none, bit-lt}
@@ -22,30 +22,17 @@ none-retired v ok e g l =
       not-marked (v.blocks (g / 64)).retired (g % 64) (ok.no_page_mark e (g / 64) (omega arith)),
     )
 
-other-bit : (d : ℕ) → d < 2 → eqb (1 - d) 1 ≡ not (eqb d 1)
-other-bit zero h = refl
-other-bit (suc zero) h = refl
-other-bit (suc (suc d)) h = absurd (omega arith)
-
 pub retired-lt : (b : ℕ) (x : BlockWords) (g : ℕ) → page_retired_of b x g < 2
 unfolding page_retired_of
 retired-lt b x g = bit-lt _ (g % 64)
 
-reached : (v : Window) (g d : ℕ) (x : BlockWords) → v.blocks (g / 64) ≡ block_of x → d ≡ page_retired_of v.header.retired_blocks x g
-    → eqb (1 - d) 1 ≡ not (is_retired v g)
-reached v g d x e q =
-    let l = retired-lt v.header.retired_blocks x g in
-    other-bit d (omega arith) ∙ ap not (ap (λ (y : ℕ). eqb y 1) q ∙ page-retired-is v v.header.retired_blocks x g refl e)
-
-pub reached-lt : (h : AdaptiveReceiverPacketWindow) (blocks : List ℕ) (g : ℕ) → reached_by h blocks g < 2
-reached-lt h blocks g = bool (eqb h.retired_held 0) (λ e. rw e (omega arith)) (λ e. rw e (omega arith))
-
 -- on a sound window with this header and these words of the page's block
 pub reached-by : (v : Window) → Sound v → (h : AdaptiveReceiverPacketWindow) → v.header ≡ h → (blocks : List ℕ) (g : ℕ)
-    → v.blocks (g / 64) ≡ block_of (block_words_at blocks (g / 64)) → g < pages_of v → eqb (reached_by h blocks g) 1 ≡ not (is_retired v g)
+    → v.blocks (g / 64) ≡ block_of (block_words_at blocks (g / 64)) → g < pages_of v → reached_by h blocks g ≡ not (is_retired v g)
 reached-by v ok h e blocks g f l = bool (eqb h.retired_held 0)
     (λ y. rw y (none-retired v ok (ap (λ (k : AdaptiveReceiverPacketWindow). k.retired_held) e ∙ eqb-true h.retired_held 0 y) g l))
-    (λ y. rw y (reached v g _ (block_words_at blocks (g / 64)) f (ap (λ (k : AdaptiveReceiverPacketWindow). page_retired_of k.retired_blocks (block_words_at blocks (g / 64)) g) (sym e))))
+    (λ y. rw y (ap not (ap (λ (k : AdaptiveReceiverPacketWindow). eqb (page_retired_of k.retired_blocks (block_words_at blocks (g / 64)) g) 1) (sym e)
+    ∙ page-retired-is v v.header.retired_blocks (block_words_at blocks (g / 64)) g refl f)))
 
 -- what the tactics know of a mark: it is 0 or 1
 pub ruleset marks = (retired-lt)

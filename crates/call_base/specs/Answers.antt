@@ -1,10 +1,10 @@
 -- The answers of the calls in document 01's numbers and values, and what a call finds and leaves as the contract reads it.
 -- Definitions only. Assumes nothing.
-use Rattle.std.specs.Prelude.{ℕ, Bool, List, [], length, nat_le}
+use Rattle.std.specs.Prelude.{ℕ, Bool, List, [], length, nat_le, Result, Ok, Err}
 use Rattle.window.specs.declared.AdaptiveReceiverPacketWindow.{AdaptiveReceiverPacketWindow}
 use Rattle.window.specs.declared.refusals.Refusal.{Refusal}
 use Rattle.window.specs.declared.answers.Answer.{Answer}
-use Rattle.window.specs.declared.answers.Answer.TheVariants.{Done, New, Replaced, Absent, Found, Pair, Ended, Released, Refused}
+use Rattle.window.specs.declared.answers.Answer.TheVariants.{Done, New, Replaced, Absent, Found, Pair, Ended, Released}
 use Rattle.window.specs.declared.answers.Step.{Step}
 use Rattle.window.specs.Memory.{Memory}
 use Rattle.window.specs.Lent.{Lent, found_in, left_in}
@@ -12,17 +12,21 @@ use Rattle.window.specs.Refusals.{refusal_number_of}
 use Rattle.model.specs.Calls as model
 use Rattle.model.specs.Contract.{State, Left, Meets}
 
--- document 01's answer for each answer of a call; a refusal has its number there
-abbrev pub answer_of : Answer → model.Answer
-answer_of Done = model.done
-answer_of New = model.new
-answer_of (Replaced v) = model.replaced v
-answer_of Absent = model.absent
-answer_of (Found n) = model.found n
-answer_of (Pair s v next reads) = model.pair s v next reads
-answer_of (Ended reads) = model.ended reads
-answer_of (Released values units) = model.released values units
-answer_of (Refused why) = model.refused (refusal_number_of why)
+-- document 01's answer for each answer of a call that is not refused
+abbrev pub given_of : Answer → model.Answer
+given_of Done = model.done
+given_of New = model.new
+given_of (Replaced v) = model.replaced v
+given_of Absent = model.absent
+given_of (Found n) = model.found n
+given_of (Pair s v next reads) = model.pair s v next reads
+given_of (Ended reads) = model.ended reads
+given_of (Released values units) = model.released values units
+
+-- and for every call; a refusal has its number there
+abbrev pub answer_of : Result Answer Refusal → model.Answer
+answer_of (Ok a) = given_of a
+answer_of (Err why) = model.refused (refusal_number_of why)
 
 -- the number of a refusal, 0 for any other answer
 abbrev pub number_of : model.Answer → ℕ
@@ -37,11 +41,11 @@ number_of (model.released values units) = 0
 number_of (model.refused k) = k
 
 -- an answer with the header as it is and nothing returned
-abbrev pub replied : AdaptiveReceiverPacketWindow → Answer → Step
+abbrev pub replied : AdaptiveReceiverPacketWindow → Result Answer Refusal → Step
 replied w a = record { window = w; answer = record { answer = a; count = 0 } }
 
 abbrev pub refused_by : AdaptiveReceiverPacketWindow → Refusal → Step
-refused_by w why = replied w (Refused why)
+refused_by w why = replied w (Err why)
 
 -- ---- as the contract of every call reads it
 

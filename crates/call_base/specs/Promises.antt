@@ -1,8 +1,9 @@
 -- Whether a page's values are reachable, and what a call promises once it is admitted. Definitions only. Assumes nothing.
-use Rattle.std.specs.Prelude.{◌≡◌, ℕ, ◌-◌, ◌/◌, ◌≤◌, Bool, cond, List, [], length, drop, ◌==◌, nat_le}
+use Rattle.std.specs.Prelude.{◌≡◌, ℕ, ◌/◌, ◌≤◌, Bool, not, ◌||◌, List, [], length, drop, ◌==◌, nat_le, Result}
 use Rattle.window.specs.declared.AdaptiveReceiverPacketWindow.{AdaptiveReceiverPacketWindow}
 use Rattle.window.specs.declared.answers.Answer.{Answer}
 use Rattle.window.specs.declared.answers.Step.{Step}
+use Rattle.window.specs.declared.refusals.Refusal.{Refusal}
 use Rattle.window.specs.Lent.{Lent, found_in, left_in}
 use Rattle.model.specs.Window.{Window}
 use Rattle.model.specs.Calls.{Query, Call, refused}
@@ -14,11 +15,11 @@ use Rattle.block_marks.specs.Marks.{page_retired_of}
 use Rattle.block_marks.specs.Blocks.{block_words_at}
 use Rattle.call_base.specs.Answers.{answer_of, state_of, left_of}
 
--- whether values of page g are reachable, 1 or 0: always, unless some retired value is held; then by the marks
-abbrev pub reached_by : AdaptiveReceiverPacketWindow → (blocks : List ℕ) → ℕ → ℕ
-reached_by h blocks g = cond (h.retired_held == 0) 1 (1 - page_retired_of h.retired_blocks (block_words_at blocks (g / 64)) g)
+-- whether values of page g are reachable: always, unless some retired value is held; then by the marks
+abbrev pub reached_by : AdaptiveReceiverPacketWindow → (blocks : List ℕ) → ℕ → Bool
+reached_by h blocks g = (h.retired_held == 0) || not (page_retired_of h.retired_blocks (block_words_at blocks (g / 64)) g == 1)
 
-abbrev pub Reachable : AdaptiveReceiverPacketWindow → (blocks : List ℕ) → (g r : ℕ) → Type 0
+abbrev pub Reachable : AdaptiveReceiverPacketWindow → (blocks : List ℕ) → ℕ → Bool → Type 0
 Reachable h blocks g r = r ≡ reached_by h blocks g
 
 -- ---- a call that no refusal for arguments applies to
@@ -52,10 +53,10 @@ AdmittedInto c w ss vs pages blocks l r =
     Admitted (c (nat_le 384 (length l.entry))) (state_of w (found_in ss vs pages blocks)) l.entry (left_of r (left_in ss vs pages blocks) l.exit)
 
 -- a query: on a sound state the answer is the definition's
-abbrev pub Tells : Query → State → Answer → Type 0
+abbrev pub Tells : Query → State → Result Answer Refusal → Type 0
 Tells q u a = Sound (window_of u) → answer_of a ≡ window_answer (window_of u) q
 
-abbrev pub TellsBy : Query → AdaptiveReceiverPacketWindow → (sequences values pages blocks : Lent) → Answer → Type 0
+abbrev pub TellsBy : Query → AdaptiveReceiverPacketWindow → (sequences values pages blocks : Lent) → Result Answer Refusal → Type 0
 TellsBy q w ss vs pages blocks a = Tells q (state_of w (found_in ss vs pages blocks)) a
 
 -- a step on a window, done on state u, with at most 384 values in the return list from its beginning on; never refusal 4

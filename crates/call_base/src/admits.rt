@@ -7,7 +7,7 @@ ghost use Rattle.call_base.specs.Admits.{arguments_of, admission};
 
 use crate::range_count;
 use window::AdaptiveReceiverPacketWindow;
-use window::refusals::{Refusal, Verdict, fits_with_list, is_wire_number};
+use window::refusals::{Refusal, fits_with_list, is_wire_number};
 
 // The arguments of a call that a refusal looks at.
 #[derive(Clone, Copy)]
@@ -23,29 +23,29 @@ pub enum Arguments {
 pub const NO_LIST: usize = 384;
 
 // Whether a count, a number or a base is above its limit: 5, 8 or 9.
-fn limit_refusal(w: AdaptiveReceiverPacketWindow, arguments: Arguments) -> Verdict
+fn limit_refusal(w: AdaptiveReceiverPacketWindow, arguments: Arguments) -> Result<(), Refusal>
     ensures { verdict_number result ≡ limit_refusal_of (known_by w) (arguments_of arguments) }
 {
     match arguments {
-        Arguments::Nothing => Verdict::Pass,
-        Arguments::Sequence(sequence) => Verdict::Pass,
+        Arguments::Nothing => Ok(()),
+        Arguments::Sequence(sequence) => Ok(()),
         Arguments::Range(first, last) => {
             if w.window_size < range_count(first, last) {
-                return Verdict::Refuse(Refusal::RangeCount);
+                return Err(Refusal::RangeCount);
             }
-            Verdict::Pass
+            Ok(())
         }
         Arguments::Number(number) => {
             if AdaptiveReceiverPacketWindow::MAX_RETIRED_RELEASED_PER_VISIT < number as usize {
-                return Verdict::Refuse(Refusal::Budget);
+                return Err(Refusal::Budget);
             }
-            Verdict::Pass
+            Ok(())
         }
         Arguments::Base(base) => {
             if !is_wire_number(base) {
-                return Verdict::Refuse(Refusal::Base);
+                return Err(Refusal::Base);
             }
-            Verdict::Pass
+            Ok(())
         }
     }
 }
@@ -64,11 +64,11 @@ fn are_wire_numbers(arguments: Arguments) -> bool
 }
 
 // Whether the arguments are refused.
-fn refused_for(w: AdaptiveReceiverPacketWindow, arguments: Arguments) -> Verdict
+fn refused_for(w: AdaptiveReceiverPacketWindow, arguments: Arguments) -> Result<(), Refusal>
     ensures { verdict_number result ≡ refused_for_of (known_by w) (arguments_of arguments) }
 {
     if !are_wire_numbers(arguments) {
-        return Verdict::Refuse(Refusal::Sequence);
+        return Err(Refusal::Sequence);
     }
     limit_refusal(w, arguments)
 }
@@ -82,11 +82,11 @@ pub fn admits(
     blocks: usize,
     returned: usize,
     arguments: Arguments,
-) -> Verdict
+) -> Result<(), Refusal>
     ensures { verdict_number result ≡ admission w sequences values pages blocks returned (arguments_of arguments) }
 {
     if !fits_with_list(w, sequences, values, pages, blocks, returned) {
-        return Verdict::Refuse(Refusal::ShortMemory);
+        return Err(Refusal::ShortMemory);
     }
     refused_for(w, arguments)
 }

@@ -9,17 +9,16 @@ ghost use Rattle.std.specs.Prelude.{◌≡◌, ◌+◌, ◌/◌, ◌<◌};
 ghost use Rattle.window.specs.Memory.{words_per_block, RowIn};
 ghost use Rattle.model.specs.Table.{range_count_of, sequence_at_of, distance as distance_of};
 ghost use Rattle.page_base.specs.Promises.{read_answer_of};
-ghost use Rattle.call_base.specs.Answers.{answer_of, replied, refused_by};
+ghost use Rattle.call_base.specs.Answers.{given_of, replied, refused_by};
 ghost use Rattle.call_base.specs.Promises.{Reachable};
 
 use block_marks::marks::page_retired;
-use page_base::find::Read;
 use window::AdaptiveReceiverPacketWindow;
 use window::answers::{Answer, Outcome, Step};
 use window::refusals::Refusal;
 
-// The answer, the header as it is and nothing returned.
-pub fn reply(w: AdaptiveReceiverPacketWindow, answer: Answer) -> Step
+// The answer or refusal, the header as it is and nothing returned.
+pub fn reply(w: AdaptiveReceiverPacketWindow, answer: Result<Answer, Refusal>) -> Step
     ensures { result ≡ replied w answer }
 {
     Step {
@@ -32,43 +31,43 @@ pub fn reply(w: AdaptiveReceiverPacketWindow, answer: Answer) -> Step
 pub fn refuse(w: AdaptiveReceiverPacketWindow, why: Refusal) -> Step
     ensures { result ≡ refused_by w why }
 {
-    reply(w, Answer::Refused(why))
+    reply(w, Err(why))
 }
 
-// The answer of a call for what a page gave.
-pub fn read_answer(read: Read) -> Answer
-    ensures { answer_of result ≡ read_answer_of read }
+// The answer of a call for what a search gave.
+pub fn read_answer(read: Option<u32>) -> Answer
+    ensures { given_of result ≡ read_answer_of read }
 {
     match read {
-        Read::Absent => Answer::Absent,
-        Read::Value(value) => Answer::Found(value),
+        None => Answer::Absent,
+        Some(value) => Answer::Found(value),
     }
 }
 
-// Whether values of a page are reachable: 1 or 0. Always, unless some retired value is held.
+// Whether values of a page are reachable. Always, unless some retired value is held.
 #[tactic(auto, using(crate::proofs::RetiredLaws::marks))]
-pub fn reachable(w: AdaptiveReceiverPacketWindow, blocks: &[u64], page: usize) -> u64
+pub fn reachable(w: AdaptiveReceiverPacketWindow, blocks: &[u64], page: usize) -> bool
     requires { (page < 1024) × RowIn words_per_block (page / 64) blocks.now }
     ensures { Reachable w blocks.now page result }
 {
     if w.retired_held == 0 {
-        return 1;
+        return true;
     }
-    1 - page_retired(blocks, w.retired_blocks, page)
+    !page_retired(blocks, w.retired_blocks, page)
 }
 
 // The sequence at distance `d` from the base: sums are modulo 2^31.
 pub fn sequence_at(base: u32, d: u32) -> u32
     ensures { result ≡ sequence_at_of base d }
 {
-    std::num::wrapping_add_u32(base, d) % 0x8000_0000
+    base.wrapping_add(d) % 0x8000_0000
 }
 
 // How far a sequence is from a base: 31 bits.
 pub fn distance(base: u32, sequence: u32) -> u32
     ensures { result ≡ distance_of base sequence }
 {
-    std::num::wrapping_sub_u32(sequence, base) % 0x8000_0000
+    sequence.wrapping_sub(base) % 0x8000_0000
 }
 
 // How many positions a range has: the distance from first to last, and one.

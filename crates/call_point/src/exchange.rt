@@ -13,7 +13,6 @@ use page_base::{PageWords, page_cells, page_words};
 use window::AdaptiveReceiverPacketWindow;
 use window::answers::{Answer, Step};
 use window::memory::{PAGE_SLOTS, position};
-use window::refusals::Verdict;
 
 // The value of the sequence in page `page`, which has these words, and another put in its place.
 fn exchange_in_page(
@@ -68,7 +67,7 @@ pub fn exchange(
 ) -> Step
     ensures { MeetsBy (exchange_of sequence value) w (lent sequences) (lent_mut values) (lent pages) (lent blocks) result }
 {
-    let verdict = admits(
+    match admits(
         w,
         sequences.len(),
         values.len(),
@@ -76,9 +75,10 @@ pub fn exchange(
         blocks.len(),
         NO_LIST,
         Arguments::Sequence(sequence),
-    );
-    if let Verdict::Refuse(why) = verdict {
-        return refuse(w, why);
+    ) {
+        Ok(()) => {
+            exchange_value(w, sequences, values, pages, blocks, sequence, value)
+        }
+        Err(why) => refuse(w, why),
     }
-    exchange_value(w, sequences, values, pages, blocks, sequence, value)
 }

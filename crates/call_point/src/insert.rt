@@ -18,7 +18,7 @@ use page_store::store::store_inserted;
 use window::AdaptiveReceiverPacketWindow;
 use window::answers::{Answer, Outcome, Step};
 use window::memory::{PAGE_SLOTS, position};
-use window::refusals::{Refusal, Verdict};
+use window::refusals::Refusal;
 
 // The header after an insert into a page, and the answer.
 #[derive(Clone, Copy)]
@@ -251,7 +251,7 @@ pub fn insert(
 ) -> Step
     ensures { MeetsInto (insert_of sequence value) w (lent_mut sequences) (lent_mut values) (lent_mut pages) (lent_mut blocks) (lent_mut returned) result }
 {
-    let verdict = admits(
+    match admits(
         w,
         sequences.len(),
         values.len(),
@@ -259,12 +259,13 @@ pub fn insert(
         blocks.len(),
         returned.len(),
         Arguments::Sequence(sequence),
-    );
-    if let Verdict::Refuse(why) = verdict {
-        return refuse(w, why);
+    ) {
+        Ok(()) => {
+            let step = insert_value(
+                w, sequences, values, pages, blocks, returned, sequence, value,
+            );
+            keep_point(w, step, sequences, pages, blocks, sequence)
+        }
+        Err(why) => refuse(w, why),
     }
-    let step = insert_value(
-        w, sequences, values, pages, blocks, returned, sequence, value,
-    );
-    keep_point(w, step, sequences, pages, blocks, sequence)
 }

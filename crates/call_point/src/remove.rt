@@ -16,7 +16,6 @@ use page_remove::Removed;
 use page_store::store::store_removed;
 use window::answers::{Answer, Step};
 use window::memory::{PAGE_SLOTS, position};
-use window::refusals::Verdict;
 use window::{AdaptiveReceiverPacketWindow, Cause};
 
 // The value of the sequence taken out of page `page`, which has these words.
@@ -116,7 +115,7 @@ pub fn remove(
 ) -> Step
     ensures { MeetsBy (remove_of sequence) w (lent_mut sequences) (lent_mut values) (lent_mut pages) (lent_mut blocks) result }
 {
-    let verdict = admits(
+    match admits(
         w,
         sequences.len(),
         values.len(),
@@ -124,10 +123,11 @@ pub fn remove(
         blocks.len(),
         NO_LIST,
         Arguments::Sequence(sequence),
-    );
-    if let Verdict::Refuse(why) = verdict {
-        return refuse(w, why);
+    ) {
+        Ok(()) => {
+            let step = remove_value(w, sequences, values, pages, blocks, sequence);
+            keep_point(step, sequence)
+        }
+        Err(why) => refuse(w, why),
     }
-    let step = remove_value(w, sequences, values, pages, blocks, sequence);
-    keep_point(step, sequence)
 }

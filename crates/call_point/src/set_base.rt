@@ -8,7 +8,6 @@ use call_base::admits::{Arguments, NO_LIST, admits};
 use call_base::{refuse, reply};
 use window::AdaptiveReceiverPacketWindow;
 use window::answers::{Answer, Step};
-use window::refusals::Verdict;
 
 pub fn set_base(
     w: AdaptiveReceiverPacketWindow,
@@ -20,7 +19,7 @@ pub fn set_base(
 ) -> Step
     ensures { MeetsBy (set_base base) w (lent sequences) (lent values) (lent pages) (lent blocks) result }
 {
-    let verdict = admits(
+    match admits(
         w,
         sequences.len(),
         values.len(),
@@ -28,12 +27,13 @@ pub fn set_base(
         blocks.len(),
         NO_LIST,
         Arguments::Base(base),
-    );
-    if let Verdict::Refuse(why) = verdict {
-        return refuse(w, why);
+    ) {
+        Ok(()) => {
+            reply(
+                after_base(w, w, sequences, pages, blocks, base),
+                Answer::Done,
+            )
+        }
+        Err(why) => refuse(w, why),
     }
-    reply(
-        after_base(w, w, sequences, pages, blocks, base),
-        Answer::Done,
-    )
 }

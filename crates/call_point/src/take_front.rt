@@ -11,7 +11,6 @@ use call_base::admits::{Arguments, NO_LIST, admits};
 use call_base::{refuse, sequence_at};
 use window::AdaptiveReceiverPacketWindow;
 use window::answers::{Answer, Step};
-use window::refusals::Verdict;
 
 // The base and the point after the remove of the base of `w`: where it was found, the base moves by one.
 fn move_base(
@@ -46,7 +45,7 @@ pub fn take_front(
 ) -> Step
     ensures { MeetsBy take_front w (lent_mut sequences) (lent_mut values) (lent_mut pages) (lent_mut blocks) result }
 {
-    let verdict = admits(
+    match admits(
         w,
         sequences.len(),
         values.len(),
@@ -54,10 +53,11 @@ pub fn take_front(
         blocks.len(),
         NO_LIST,
         Arguments::Nothing,
-    );
-    if let Verdict::Refuse(why) = verdict {
-        return refuse(w, why);
+    ) {
+        Ok(()) => {
+            let step = remove_value(w, sequences, values, pages, blocks, w.base);
+            move_base(w, step, sequences, pages, blocks)
+        }
+        Err(why) => refuse(w, why),
     }
-    let step = remove_value(w, sequences, values, pages, blocks, w.base);
-    move_base(w, step, sequences, pages, blocks)
 }

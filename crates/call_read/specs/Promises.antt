@@ -1,6 +1,6 @@
 -- What the steps of the reading calls promise on a sound window; on any memory they end and stay inside the lists. Definitions only.
 -- Assumes nothing.
-use Rattle.std.specs.Prelude.{◌≡◌, ℕ, ◌+◌, ◌-◌, ◌*◌, ◌/◌, ◌%◌, ◌≤◌, Bool, cond, ◌&&◌, List, ◌==◌, nat_lt}
+use Rattle.std.specs.Prelude.{◌≡◌, ℕ, ◌+◌, ◌-◌, ◌*◌, ◌/◌, ◌%◌, ◌≤◌, ◌<◌, Bool, cond, ◌&&◌, List, ◌==◌, nat_lt, Option, Result, IfSome, unwrap_or}
 use Rattle.std.proofs.Math.Option.{some}
 use Rattle.words.specs.First.{first_from_of, first_round}
 use Rattle.words.specs.Word.{is_set}
@@ -13,7 +13,7 @@ use Rattle.model.specs.Sound.{Sound}
 use Rattle.page_base.specs.Page.{words_at}
 use Rattle.block_search.specs.declared.Select.TheVariants.{Live}
 use Rattle.block_search.specs.Search.{selected_pages_of}
-use Rattle.block_search.specs.declared.walk.Found.{Found}
+use Rattle.window.specs.declared.refusals.Refusal.{Refusal}
 use Rattle.block_search.specs.Promises.{found_answer_of}
 use Rattle.call_read.specs.declared.cells.Entered.{Entered}
 use Rattle.call_read.specs.declared.cells.NextCell.{NextCell}
@@ -43,9 +43,9 @@ cell_in_block_of pages live b start end = first_from_of (λ (q : ℕ). (q / 4096
 
 -- the next reachable cell; the reads are counted right on every state, for the cell that was found
 pub record FindsCell (h : AdaptiveReceiverPacketWindow) (pages blocks : List ℕ) (start end : ℕ) (r : NextCell) : Type 0 where
-  pub bounded : r.cell ≤ end
-  pub counted : r.reads ≡ reads_of end start r.cell
-  pub gives : (ss vs : List ℕ) → Sound (decode h (memory ss vs pages blocks)) → r.cell ≡ first_from_of (is_reached (decode h (memory ss vs pages blocks))) (end - start) start
+  pub bounded : IfSome r.cell (λ q. q < end)
+  pub counted : r.reads ≡ reads_of end start (unwrap_or r.cell end)
+  pub gives : (ss vs : List ℕ) → Sound (decode h (memory ss vs pages blocks)) → unwrap_or r.cell end ≡ first_from_of (is_reached (decode h (memory ss vs pages blocks))) (end - start) start
 
 -- ---- stranger
 
@@ -55,7 +55,7 @@ stranger_from w start end first count =
     let q = first_from_of (λ (r : ℕ). is_stranger_of first count (live_at w r)) (end - start) start in
     cond (nat_lt q end) (sequence_of (live_at w q)) absent
 
-pub record FindsStranger (h : AdaptiveReceiverPacketWindow) (ss pages blocks : List ℕ) (start end first count : ℕ) (r : Found) : Type 0 where
+pub record FindsStranger (h : AdaptiveReceiverPacketWindow) (ss pages blocks : List ℕ) (start end first count : ℕ) (r : Result (Option ℕ) Refusal) : Type 0 where
   pub gives : (vs : List ℕ) → Sound (decode h (memory ss vs pages blocks))
       → found_answer_of r ≡ stranger_from (decode h (memory ss vs pages blocks)) start end first count
 
@@ -71,7 +71,7 @@ stranger_position w first count = first_round (stranger_at w first count) (capac
 unfoldable pub stranger_in_range : Window → ℕ → ℕ → Answer
 stranger_in_range w first count = let q = stranger_position w first count in cond (nat_lt q (capacity_of w)) (sequence_of (live_at w q)) absent
 
-pub record FindsInRange (h : AdaptiveReceiverPacketWindow) (ss pages blocks : List ℕ) (first count : ℕ) (r : Found) : Type 0 where
+pub record FindsInRange (h : AdaptiveReceiverPacketWindow) (ss pages blocks : List ℕ) (first count : ℕ) (r : Result (Option ℕ) Refusal) : Type 0 where
   pub gives : (vs : List ℕ) → Sound (decode h (memory ss vs pages blocks))
       → found_answer_of r ≡ stranger_in_range (decode h (memory ss vs pages blocks)) first count
 
@@ -80,6 +80,6 @@ pub record GivesPair (h : AdaptiveReceiverPacketWindow) (m : Memory) (s : ℕ) (
   pub gives : Sound (decode h m) → (e : Pair) → live_at (decode h m) (position h.window_size s) ≡ some e → e.sequence ≡ s → r ≡ pair_answer_of (some e)
 
 -- the pair at position q, if the search found the sequence there; none if q is no position
-pub record GivesFound (h : AdaptiveReceiverPacketWindow) (m : Memory) (found : Found) (r : Answer) : Type 0 where
+pub record GivesFound (h : AdaptiveReceiverPacketWindow) (m : Memory) (found : Result (Option ℕ) Refusal) (r : Answer) : Type 0 where
   pub gives : Sound (decode h m) → (q : ℕ) → found_answer_of found ≡ cond (nat_lt q (capacity_of (decode h m))) (sequence_of (live_at (decode h m) q)) absent
       → r ≡ cond (nat_lt q (capacity_of (decode h m))) (pair_answer_of (live_at (decode h m) q)) absent

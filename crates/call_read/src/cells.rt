@@ -1,5 +1,5 @@
 // The next cell in use of a page that is not retired, in page order, then cell order, with the number of retired words read on the way.
-ghost use Rattle.std.specs.Prelude.{◌≡◌, ◌+◌, ◌-◌, ◌*◌, ◌/◌, ◌<◌, ◌≤◌, length};
+ghost use Rattle.std.specs.Prelude.{◌≡◌, ◌+◌, ◌-◌, ◌*◌, ◌/◌, ◌<◌, ◌≤◌, length, IfSome, unwrap_or};
 ghost use Rattle.window.specs.Memory.{capacity, page_count_of, block_count_of, words_per_page, words_per_block, RowIn};
 ghost use Rattle.call_read.specs.Promises.{entered_at, cell_in_page_of, cell_in_block_of, FindsCell};
 
@@ -15,10 +15,10 @@ pub struct Entered {
     pub reads: u32,
 }
 
-// The cell found, and the retired words read.
+// The cell found, if there is one, and the retired words read.
 #[derive(Clone, Copy)]
 pub struct NextCell {
-    pub cell: usize,
+    pub cell: Option<usize>,
     pub reads: u32,
 }
 
@@ -33,22 +33,28 @@ fn enter_block(blocks: &[u64], retired_blocks: u64, block: usize, reads: u32) ->
     }
 }
 
-// The first cell in use of page `page` from its cell `from` on, if it is one of the live pages of its block; 64 if there is none.
-fn cell_in_page(pages: &[u64], live: u64, page: usize, from: usize) -> usize
+// The first cell in use of page `page` from its cell `from` on, if it is one of the live pages of its block.
+fn cell_in_page(pages: &[u64], live: u64, page: usize, from: usize) -> Option<usize>
     requires { (page < 1024) × (from < 64) × RowIn words_per_page page pages.now }
-    ensures { result ≡ cell_in_page_of pages.now live page from }
+    ensures within { IfSome result (λ c. c < 64) }
+    ensures first { unwrap_or result 64 ≡ cell_in_page_of pages.now live page from }
 {
-    if words::bit(live, page % 64) == 0 {
-        return PAGE_SLOTS;
+    if !words::bit(live, page % 64) {
+        return None;
     }
     let words = page_words(pages, page);
-    words::lowest(words.filled, from)
+    let cell = words::lowest(words.filled, from);
+    if PAGE_SLOTS <= cell {
+        return None;
+    }
+    Some(cell)
 }
 
-// The first cell in use from `start` up to `end` of the live pages of block `block`; `end` if there is none. No other page is read.
-fn cell_in_block(pages: &[u64], live: u64, block: usize, start: usize, end: usize) -> usize
+// The first cell in use from `start` up to `end` of the live pages of block `block`. No other page is read.
+fn cell_in_block(pages: &[u64], live: u64, block: usize, start: usize, end: usize) -> Option<usize>
     requires { (start < end) × (end ≤ 65536) × (start / 4096 ≤ block) × (block ≤ (end - 1) / 4096) × (words_per_page * ((end + 63) / 64) ≤ length pages.now) }
-    ensures { result ≡ cell_in_block_of pages.now live block start end }
+    ensures within { IfSome result (λ q. q < end) }
+    ensures first { unwrap_or result end ≡ cell_in_block_of pages.now live block start end }
 {
     let first = start / PAGE_SLOTS;
     let stop = (end - 1) / PAGE_SLOTS + 1;
@@ -59,14 +65,14 @@ fn cell_in_block(pages: &[u64], live: u64, block: usize, start: usize, end: usiz
         let words = page_words(pages, page);
         let filled = words.filled & bits_within(start, end, page);
         if filled != 0 {
-            return PAGE_SLOTS * page + words::lowest(filled, 0);
+            return Some(PAGE_SLOTS * page + words::lowest(filled, 0));
         }
         left = words::clear(left, bit);
     }
-    end
+    None
 }
 
-// The first reachable cell from `start` up to `end`, block by block, from that of `start`, which was entered; `end` if there is none.
+// The first reachable cell from `start` up to `end`, block by block, from that of `start`, which was entered.
 fn walk_blocks(
     w: AdaptiveReceiverPacketWindow,
     pages: &[u64],
@@ -86,11 +92,8 @@ fn walk_blocks(
     let mut entered = own;
     let cell = loop {
         let cell = cell_in_block(pages, entered.live, block, start, end);
-        if cell < end {
+        if cell.is_some() || last <= block {
             break cell;
-        }
-        if last <= block {
-            break end;
         }
         block = block + 1;
         entered = enter_block(blocks, retired_blocks, block, entered.reads);
@@ -101,7 +104,7 @@ fn walk_blocks(
     }
 }
 
-// The first reachable cell from `start` up to `end`, which is the capacity; `end` if there is none. Most often it is in the page
+// The first reachable cell from `start` up to `end`, which is the capacity. Most often it is in the page
 // of `start`, which is looked at first.
 pub fn next_cell(
     w: AdaptiveReceiverPacketWindow,
@@ -116,10 +119,9 @@ pub fn next_cell(
 {
     let page = start / PAGE_SLOTS;
     let own = enter_block(blocks, w.retired_blocks, page / 64, 0);
-    let c = cell_in_page(pages, own.live, page, start % PAGE_SLOTS);
-    if c < PAGE_SLOTS {
+    if let Some(c) = cell_in_page(pages, own.live, page, start % PAGE_SLOTS) {
         return NextCell {
-            cell: PAGE_SLOTS * page + c,
+            cell: Some(PAGE_SLOTS * page + c),
             reads: own.reads,
         };
     }

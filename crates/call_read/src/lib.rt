@@ -6,6 +6,7 @@ pub mod cells;
 pub mod round;
 pub mod stranger;
 
+ghost use Rattle.std.specs.Prelude.{Ok};
 ghost use Rattle.window.specs.Lent.{ListsFit, lent};
 ghost use Rattle.model.specs.Calls.{get as get_of, successor_after, first_from, iter as iter_of, ask};
 ghost use Rattle.call_base.specs.Answers.{MeetsBy};
@@ -19,7 +20,6 @@ use round::find_round;
 use window::AdaptiveReceiverPacketWindow;
 use window::answers::{Answer, Step};
 use window::memory::{PAGE_SLOTS, capacity, position};
-use window::refusals::Verdict;
 
 // The value of the sequence.
 pub fn value_of(
@@ -31,11 +31,11 @@ pub fn value_of(
     sequence: u32,
 ) -> Answer
     requires { ListsFit w sequences.now values.now pages.now blocks.now }
-    ensures { TellsBy (get_of sequence) w (lent sequences) (lent values) (lent pages) (lent blocks) result }
+    ensures { TellsBy (get_of sequence) w (lent sequences) (lent values) (lent pages) (lent blocks) (Ok result) }
 {
     let n = w.n as usize;
     let page = position(w.window_size, sequence) / PAGE_SLOTS;
-    if reachable(w, blocks, page) == 0 {
+    if !reachable(w, blocks, page) {
         return Answer::Absent;
     }
     let words = page_words(pages, page);
@@ -60,7 +60,7 @@ pub fn get(
 ) -> Step
     ensures { MeetsBy (ask (get_of sequence)) w (lent sequences) (lent values) (lent pages) (lent blocks) result }
 {
-    let verdict = admits(
+    match admits(
         w,
         sequences.len(),
         values.len(),
@@ -68,11 +68,15 @@ pub fn get(
         blocks.len(),
         NO_LIST,
         Arguments::Sequence(sequence),
-    );
-    if let Verdict::Refuse(why) = verdict {
-        return refuse(w, why);
+    ) {
+        Ok(()) => {
+            reply(
+                w,
+                Ok(value_of(w, sequences, values, pages, blocks, sequence)),
+            )
+        }
+        Err(why) => refuse(w, why),
     }
-    reply(w, value_of(w, sequences, values, pages, blocks, sequence))
 }
 
 // The sequence of the first live value after the sequence's position, round to its own, last of all.
@@ -86,7 +90,7 @@ pub fn successor_after(
 ) -> Step
     ensures { MeetsBy (ask (successor_after sequence)) w (lent sequences) (lent values) (lent pages) (lent blocks) result }
 {
-    let verdict = admits(
+    match admits(
         w,
         sequences.len(),
         values.len(),
@@ -94,11 +98,10 @@ pub fn successor_after(
         blocks.len(),
         NO_LIST,
         Arguments::Sequence(sequence),
-    );
-    if let Verdict::Refuse(why) = verdict {
-        return refuse(w, why);
+    ) {
+        Ok(()) => { reply(w, find_round(w, sequences, pages, blocks, sequence)) }
+        Err(why) => refuse(w, why),
     }
-    reply(w, find_round(w, sequences, pages, blocks, sequence))
 }
 
 // The sequence of the first live value from the sequence's own position on, then round.
@@ -112,7 +115,7 @@ pub fn first_from(
 ) -> Step
     ensures { MeetsBy (ask (first_from sequence)) w (lent sequences) (lent values) (lent pages) (lent blocks) result }
 {
-    let verdict = admits(
+    match admits(
         w,
         sequences.len(),
         values.len(),
@@ -120,12 +123,13 @@ pub fn first_from(
         blocks.len(),
         NO_LIST,
         Arguments::Sequence(sequence),
-    );
-    if let Verdict::Refuse(why) = verdict {
-        return refuse(w, why);
+    ) {
+        Ok(()) => {
+            let before = sequence.wrapping_sub(1) % 0x8000_0000;
+            reply(w, find_round(w, sequences, pages, blocks, before))
+        }
+        Err(why) => refuse(w, why),
     }
-    let before = std::num::wrapping_sub_u32(sequence, 1) % 0x8000_0000;
-    reply(w, find_round(w, sequences, pages, blocks, before))
 }
 
 // The next reachable pair from a cell number on, with the cell after it, or done; and how many retired words were read.
@@ -138,7 +142,7 @@ fn next_pair(
     cell: u32,
 ) -> Answer
     requires { ListsFit w sequences.now values.now pages.now blocks.now }
-    ensures { TellsBy (iter_of cell) w (lent sequences) (lent values) (lent pages) (lent blocks) result }
+    ensures { TellsBy (iter_of cell) w (lent sequences) (lent values) (lent pages) (lent blocks) (Ok result) }
 {
     let start = cell as usize;
     let end = capacity(w.window_size);
@@ -146,12 +150,10 @@ fn next_pair(
         return Answer::Ended(0);
     }
     let next = next_cell(w, pages, blocks, start, end);
-    let found = next.cell;
-    if end <= found {
-        return Answer::Ended(next.reads);
+    match next.cell {
+        Some(cell) => Answer::Pair(sequences[cell], values[cell], (cell + 1) as u32, next.reads),
+        None => Answer::Ended(next.reads),
     }
-    let after = (found + 1) as u32;
-    Answer::Pair(sequences[found], values[found], after, next.reads)
 }
 
 // From a cell number, the next reachable pair in page order, then cell order, with the cell after it, or done; and how many retired
@@ -166,7 +168,7 @@ pub fn iter(
 ) -> Step
     ensures { MeetsBy (ask (iter_of cell)) w (lent sequences) (lent values) (lent pages) (lent blocks) result }
 {
-    let verdict = admits(
+    match admits(
         w,
         sequences.len(),
         values.len(),
@@ -174,9 +176,8 @@ pub fn iter(
         blocks.len(),
         NO_LIST,
         Arguments::Nothing,
-    );
-    if let Verdict::Refuse(why) = verdict {
-        return refuse(w, why);
+    ) {
+        Ok(()) => { reply(w, Ok(next_pair(w, sequences, values, pages, blocks, cell))) }
+        Err(why) => refuse(w, why),
     }
-    reply(w, next_pair(w, sequences, values, pages, blocks, cell))
 }

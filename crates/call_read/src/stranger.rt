@@ -1,5 +1,5 @@
 // stranger: a live pair at a position of a range whose sequence is none of the range's.
-ghost use Rattle.std.specs.Prelude.{◌≡◌, ◌*◌, ◌<◌, ◌≤◌, length};
+ghost use Rattle.std.specs.Prelude.{Ok, ◌≡◌, ◌*◌, ◌<◌, ◌≤◌, length};
 ghost use Rattle.std.proofs.Math.Option.{some};
 ghost use Rattle.window.specs.Memory.{capacity as capacity_of, page_count_of, block_count_of, words_per_page, words_per_block};
 ghost use Rattle.window.specs.Lent.{found_in, ListsFit, lent};
@@ -10,13 +10,13 @@ ghost use Rattle.call_base.specs.Promises.{TellsBy};
 ghost use Rattle.call_read.specs.Promises.{FindsStranger, FindsInRange, GivesPair, GivesFound};
 
 use crate::value_of;
-use block_search::walk::{Found, find_live};
+use block_search::walk::find_live;
 use call_base::admits::{Arguments, NO_LIST, admits};
 use call_base::{distance, range_count, refuse, reply};
 use window::AdaptiveReceiverPacketWindow;
 use window::answers::{Answer, Step};
 use window::memory::{capacity, position};
-use window::refusals::{Refusal, Verdict};
+use window::refusals::Refusal;
 
 // Whether a sequence is none of the `count` from `first` on: its distance from first is count or more.
 fn is_stranger(first: u32, count: u32, sequence: u32) -> bool
@@ -35,30 +35,26 @@ fn find_stranger(
     end: usize,
     first: u32,
     count: u32,
-) -> Found
+) -> Result<Option<u32>, Refusal>
     requires window_size_bound { (w.window_size ≤ 65536) × (w.n < 64) × (start < end) × (end ≤ capacity_of w.window_size) }
     requires window_size_in_bounds { (capacity_of w.window_size ≤ length sequences.now) × (words_per_page * page_count_of w.window_size ≤ length pages.now) × (words_per_block * block_count_of w.window_size ≤ length blocks.now) }
     ensures { FindsStranger w sequences.now pages.now blocks.now start end first count result }
 {
     let mut from = start;
     while from < end {
-        let found = find_live(w, sequences, pages, blocks, from, end);
-        let Found::At(sequence) = found else {
-            return found;
+        let Some(sequence) = find_live(w, sequences, pages, blocks, from, end)? else {
+            return Ok(None);
         };
         if is_stranger(first, count, sequence) {
-            return found;
+            return Ok(Some(sequence));
         }
         let at = position(w.window_size, sequence);
-        if at < from {
-            return Found::Unsound;
-        }
-        if end <= at {
-            return Found::Unsound;
+        if at < from || end <= at {
+            return Err(Refusal::Unsound);
         }
         from = at + 1;
     }
-    Found::Nothing
+    Ok(None)
 }
 
 // The sequence of the first stranger at `count` positions in a row from first's: up to the capacity, and then from 0.
@@ -69,7 +65,7 @@ fn find_in_range(
     blocks: &[u64],
     first: u32,
     count: u32,
-) -> Found
+) -> Result<Option<u32>, Refusal>
     requires window_size_bound { (w.window_size ≤ 65536) × (w.n < 64) × (0 < count) × (count ≤ capacity_of w.window_size) }
     requires window_size_in_bounds { (capacity_of w.window_size ≤ length sequences.now) × (words_per_page * page_count_of w.window_size ≤ length pages.now) × (words_per_block * block_count_of w.window_size ≤ length blocks.now) }
     ensures { FindsInRange w sequences.now pages.now blocks.now first count result }
@@ -80,11 +76,10 @@ fn find_in_range(
     if to <= end {
         return find_stranger(w, sequences, pages, blocks, start, to, first, count);
     }
-    let found = find_stranger(w, sequences, pages, blocks, start, end, first, count);
-    if let Found::Nothing = found {
-        return find_stranger(w, sequences, pages, blocks, 0, to - end, first, count);
+    if let Some(found) = find_stranger(w, sequences, pages, blocks, start, end, first, count)? {
+        return Ok(Some(found));
     }
-    found
+    find_stranger(w, sequences, pages, blocks, 0, to - end, first, count)
 }
 
 // The pair of a sequence that a search found.
@@ -95,15 +90,14 @@ fn pair_answer(
     pages: &[u64],
     blocks: &[u64],
     sequence: u32,
-) -> Answer
+) -> Result<Answer, Refusal>
     requires { ListsFit w sequences.now values.now pages.now blocks.now }
     ensures { GivesPair w (found_in (lent sequences) (lent values) (lent pages) (lent blocks)) sequence (answer_of result) }
 {
-    let answer = value_of(w, sequences, values, pages, blocks, sequence);
-    if let Answer::Found(value) = answer {
-        return Answer::Pair(sequence, value, 0, 0);
+    match value_of(w, sequences, values, pages, blocks, sequence) {
+        Answer::Found(value) => Ok(Answer::Pair(sequence, value, 0, 0)),
+        _ => Err(Refusal::Unsound),
     }
-    Answer::Refused(Refusal::Unsound)
 }
 
 // The answer for what a search found: the pair, or none.
@@ -113,15 +107,14 @@ fn stranger_answer(
     values: &[u32],
     pages: &[u64],
     blocks: &[u64],
-    found: Found,
-) -> Answer
+    found: Option<u32>,
+) -> Result<Answer, Refusal>
     requires { ListsFit w sequences.now values.now pages.now blocks.now }
-    ensures { GivesFound w (found_in (lent sequences) (lent values) (lent pages) (lent blocks)) found (answer_of result) }
+    ensures { GivesFound w (found_in (lent sequences) (lent values) (lent pages) (lent blocks)) (Ok found) (answer_of result) }
 {
     match found {
-        Found::At(sequence) => pair_answer(w, sequences, values, pages, blocks, sequence),
-        Found::Nothing => Answer::Absent,
-        Found::Unsound => Answer::Refused(Refusal::Unsound),
+        Some(sequence) => pair_answer(w, sequences, values, pages, blocks, sequence),
+        None => Ok(Answer::Absent),
     }
 }
 
@@ -134,12 +127,12 @@ fn first_stranger(
     blocks: &[u64],
     first: u32,
     last: u32,
-) -> Answer
+) -> Result<Answer, Refusal>
     requires { ListsFit w sequences.now values.now pages.now blocks.now × (range_count_of first last ≤ w.window_size) }
     ensures { TellsBy (stranger_of first last) w (lent sequences) (lent values) (lent pages) (lent blocks) result }
 {
     let count = range_count(first, last);
-    let found = find_in_range(w, sequences, pages, blocks, first, count);
+    let found = find_in_range(w, sequences, pages, blocks, first, count)?;
     stranger_answer(w, sequences, values, pages, blocks, found)
 }
 
@@ -155,7 +148,7 @@ pub fn stranger(
 ) -> Step
     ensures { MeetsBy (ask (stranger_of first last)) w (lent sequences) (lent values) (lent pages) (lent blocks) result }
 {
-    let verdict = admits(
+    match admits(
         w,
         sequences.len(),
         values.len(),
@@ -163,12 +156,13 @@ pub fn stranger(
         blocks.len(),
         NO_LIST,
         Arguments::Range(first, last),
-    );
-    if let Verdict::Refuse(why) = verdict {
-        return refuse(w, why);
+    ) {
+        Ok(()) => {
+            reply(
+                w,
+                first_stranger(w, sequences, values, pages, blocks, first, last),
+            )
+        }
+        Err(why) => refuse(w, why),
     }
-    reply(
-        w,
-        first_stranger(w, sequences, values, pages, blocks, first, last),
-    )
 }

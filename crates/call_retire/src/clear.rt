@@ -12,7 +12,6 @@ use call_base::admits::{Arguments, admits};
 use call_base::refuse;
 use window::AdaptiveReceiverPacketWindow;
 use window::answers::{Answer, Step};
-use window::refusals::Verdict;
 
 // Every value retired, and a release visit.
 fn clear_all(
@@ -51,7 +50,7 @@ pub fn clear(
 ) -> Step
     ensures { MeetsInto clear_of w (lent sequences) (lent values) (lent_mut pages) (lent_mut blocks) (lent_mut returned) result }
 {
-    let verdict = admits(
+    match admits(
         w,
         sequences.len(),
         values.len(),
@@ -59,10 +58,11 @@ pub fn clear(
         blocks.len(),
         returned.len(),
         Arguments::Nothing,
-    );
-    if let Verdict::Refuse(why) = verdict {
-        return refuse(w, why);
+    ) {
+        Ok(()) => {
+            let step = clear_all(w, sequences, values, pages, blocks, returned);
+            cleared(step)
+        }
+        Err(why) => refuse(w, why),
     }
-    let step = clear_all(w, sequences, values, pages, blocks, returned);
-    cleared(step)
 }

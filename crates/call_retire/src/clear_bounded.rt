@@ -13,7 +13,6 @@ use call_base::refuse;
 use release_visit::bounded::release_pages;
 use window::AdaptiveReceiverPacketWindow;
 use window::answers::{Answer, Step};
-use window::refusals::Verdict;
 
 // Every value retired, and at most `number` of them handed back.
 fn clear_some(
@@ -55,7 +54,7 @@ pub fn clear_bounded(
 ) -> Step
     ensures { MeetsInto (clear_bounded number) w (lent sequences) (lent values) (lent_mut pages) (lent_mut blocks) (lent_mut returned) result }
 {
-    let verdict = admits(
+    match admits(
         w,
         sequences.len(),
         values.len(),
@@ -63,10 +62,11 @@ pub fn clear_bounded(
         blocks.len(),
         returned.len(),
         Arguments::Number(number),
-    );
-    if let Verdict::Refuse(why) = verdict {
-        return refuse(w, why);
+    ) {
+        Ok(()) => {
+            let step = clear_some(w, sequences, values, pages, blocks, returned, number);
+            cleared(step)
+        }
+        Err(why) => refuse(w, why),
     }
-    let step = clear_some(w, sequences, values, pages, blocks, returned, number);
-    cleared(step)
 }

@@ -9,7 +9,6 @@ use call_base::admits::{Arguments, admits};
 use call_base::{refuse, reply};
 use window::AdaptiveReceiverPacketWindow;
 use window::answers::{Answer, Step};
-use window::refusals::Verdict;
 
 pub fn release_retired(
     w: AdaptiveReceiverPacketWindow,
@@ -22,7 +21,7 @@ pub fn release_retired(
 ) -> Step
     ensures { MeetsInto (release_retired budget) w (lent sequences) (lent values) (lent_mut pages) (lent_mut blocks) (lent_mut returned) result }
 {
-    let verdict = admits(
+    match admits(
         w,
         sequences.len(),
         values.len(),
@@ -30,20 +29,21 @@ pub fn release_retired(
         blocks.len(),
         returned.len(),
         Arguments::Number(budget),
-    );
-    if let Verdict::Refuse(why) = verdict {
-        return refuse(w, why);
-    }
-    if w.retired_held == 0 {
-        if w.retired_blocks == 0 {
-            return reply(w, Answer::Released(0, 0));
+    ) {
+        Ok(()) => {
+            if w.retired_held == 0 {
+                if w.retired_blocks == 0 {
+                    return reply(w, Answer::Released(0, 0));
+                }
+            }
+            let limit = budget as usize;
+            let visited = release_visit::release_retired(
+                w, sequences, values, pages, blocks, returned, 0, limit,
+            );
+            let window = visited.window;
+            let answer = Answer::Released(visited.count as u32, visited.units as u32);
+            finish(window, answer, visited.count, visited.sound)
         }
+        Err(why) => refuse(w, why),
     }
-    let limit = budget as usize;
-    let visited = release_visit::release_retired(
-        w, sequences, values, pages, blocks, returned, 0, limit,
-    );
-    let window = visited.window;
-    let answer = Answer::Released(visited.count as u32, visited.units as u32);
-    finish(window, answer, visited.count, visited.sound)
 }

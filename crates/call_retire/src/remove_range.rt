@@ -21,7 +21,6 @@ use range_retire::range::retire_range;
 use window::AdaptiveReceiverPacketWindow;
 use window::answers::{Answer, Step};
 use window::memory::{PAGE_SLOTS, position};
-use window::refusals::Verdict;
 
 // The header made ready for a release: with nothing retired before, `held`, the cursor goes to the page of `start`; with nothing
 // retired now, the block marks drop.
@@ -125,7 +124,7 @@ pub fn remove_range(
 ) -> Step
     ensures { MeetsInto (remove_range first last) w (lent_mut sequences) (lent_mut values) (lent_mut pages) (lent_mut blocks) (lent_mut returned) result }
 {
-    let verdict = admits(
+    match admits(
         w,
         sequences.len(),
         values.len(),
@@ -133,12 +132,13 @@ pub fn remove_range(
         blocks.len(),
         returned.len(),
         Arguments::Range(first, last),
-    );
-    if let Verdict::Refuse(why) = verdict {
-        return refuse(w, why);
+    ) {
+        Ok(()) => {
+            let start = position(w.window_size, first);
+            let count = range_count(first, last) as usize;
+            let step = remove_positions(w, sequences, values, pages, blocks, returned, start, count);
+            keep_point(step, w.window_size, first, count)
+        }
+        Err(why) => refuse(w, why),
     }
-    let start = position(w.window_size, first);
-    let count = range_count(first, last) as usize;
-    let step = remove_positions(w, sequences, values, pages, blocks, returned, start, count);
-    keep_point(step, w.window_size, first, count)
 }

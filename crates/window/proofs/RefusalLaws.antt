@@ -19,7 +19,6 @@ or-false : (a b : Bool) → (a || b) ≡ false → (a ≡ false) × (b ≡ false
 or-false true b e = absurd (true≢false e)
 or-false false b e = (refl, e)
 
--- the number of a refusal is not 0
 some_number : (why : Refusal) → 1 ≤ refusal_number_of why
 some_number WindowSize = omega arith
 some_number SparseCells = omega arith
@@ -33,6 +32,10 @@ some_number Base = omega arith
 some_number Sequence = omega arith
 some_number ShortList = omega arith
 some_number LossList = omega arith
+
+-- the number of a refusal is not 0
+pub some-refusal : (why : Refusal) → refusal_number_of why ≡ 0 → ⊥
+some-refusal why z = omega (arith, some_number why)
 
 pub refuses : (t : Result (Unit {0}) Refusal) (why : Refusal) → t ≡ Err why → verdict_number t ≡ 0 → ⊥
 refuses t why e z = let k : refusal_number_of why ≡ 0 = ap verdict_number (sym e) ∙ z in omega (arith, some_number why)

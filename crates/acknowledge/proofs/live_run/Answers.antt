@@ -13,11 +13,11 @@ reachable-requires c =
     let fit : ListsLent c.args.w c.args.sequences.now c.args.pages.now c.args.blocks.now = c.requires in
     ((page).page-fits, omega (arith, (page).block_words, (fit).blocks_long))
 
-pub returns-then-reachable-eq0 : goal.returns-then-reachable-eq0
-returns-then-reachable-eq0 c =
+pub returns-then-not-reachable : goal.returns-then-not-reachable
+returns-then-not-reachable c =
     let s = c.args in
     let r = c.reachable in
-    run-unreachable s.w s.sequences.now s.pages.now s.blocks.now s.sequence c.position-page.result r.result c.position-page.ensures r.ensures c.if-reachable-eq0.true _ refl
+    run-unreachable s.w s.sequences.now s.pages.now s.blocks.now s.sequence c.position-page.result r.result c.position-page.ensures r.ensures c.if-not-reachable.true _ refl
 
 pub page_words-words-requires : goal.page_words-words-requires
 page_words-words-requires c =
@@ -45,5 +45,5 @@ pub returns : goal.returns
 returns c =
     let s = c.args in
     let r = c.reachable in
-    run-reached s.w s.sequences.now s.pages.now s.blocks.now s.sequence c.position-page.result r.result c.position-page.ensures r.ensures c.if-reachable-eq0.false _ _ _
+    run-reached s.w s.sequences.now s.pages.now s.blocks.now s.sequence c.position-page.result r.result c.position-page.ensures r.ensures c.if-not-reachable.false _ _ _
     c.page_words-words.ensures c.page_cells-cells.ensures c.page_run.ensures
