@@ -1,10 +1,10 @@
 -- What the steps of the calls promise. Definitions only. Assumes nothing.
-use Rattle.std.specs.Prelude.{◌≡◌, Bool, true, false, cond, List, ℕ, ◌*◌, ◌/◌, ◌≤◌, ◌<◌, length}
+use Rattle.std.specs.Prelude.{◌≡◌, Bool, true, false, cond, List, ℕ, ◌*◌, ◌/◌, ◌≤◌, ◌<◌, length, Option, None, Some, Result, Err}
 use Rattle.window.specs.declared.AdaptiveReceiverPacketWindow.{AdaptiveReceiverPacketWindow}
 use Rattle.window.specs.declared.Cause.TheVariants.{Single}
 use Rattle.window.specs.declared.answers.Answer.{Answer}
-use Rattle.window.specs.declared.answers.Answer.TheVariants.{Refused}
 use Rattle.window.specs.declared.answers.Step.{Step}
+use Rattle.window.specs.declared.refusals.Refusal.{Refusal}
 use Rattle.window.specs.declared.refusals.Refusal.TheVariants.{Unsound}
 use Rattle.window.specs.Memory.{Memory, page_count_of, block_count_of, words_per_page, words_per_block}
 use Rattle.model.specs.Calls as model
@@ -15,8 +15,6 @@ use Rattle.model.specs.Steps.{set_point, with_page, put_page, add_live_of, count
 use Rattle.model.specs.Sound.{Sound}
 use Rattle.page_base.specs.declared.PageWords.{PageWords}
 use Rattle.page_base.specs.declared.Left.{Left}
-use Rattle.page_base.specs.declared.find.Read.{Read}
-use Rattle.page_base.specs.declared.find.Read.TheVariants.{Absent, Value}
 use Rattle.page_base.specs.Page.{part_of, with_part}
 use Rattle.page_base.specs.Promises.{read_answer_of, Exchanges}
 use Rattle.page_insert.specs.declared.Inserted.{Inserted}
@@ -51,7 +49,7 @@ pub record PageOnly (g : ℕ) (m m' : Memory) : Type 0 where
 
 -- what is done to the cells of page g, which has the words w
 module _ (g n : ℕ) (w : PageWords) (ss vs : List ℕ) where
-  pub record ExchangesIn (s v : ℕ) (x : Read) (vs' : List ℕ) : Type 0 where
+  pub record ExchangesIn (s v : ℕ) (x : Option ℕ) (vs' : List ℕ) : Type 0 where
     pub values : Cells g vs vs'
     pub does : Exchanges n w (part_of g ss) (part_of g vs) s v x values.part
 
@@ -81,13 +79,13 @@ module _ (h : AdaptiveReceiverPacketWindow) (pages blocks : List ℕ) (g : ℕ) 
         → Stores (updates.Inserted h (block_words_at blocks (g / 64)) g (page.promotes x.answer)) pages blocks g x.words p.window pages' blocks'
     pub old : is_new (answer_of p.answer) ≡ false → Untouched h pages blocks p.window pages' blocks'
 
-  pub record KeepsRemoved (w : PageWords) (left : Left) (x : Read) (r : Step) (pages' blocks' : List ℕ) : Type 0 where
+  pub record KeepsRemoved (w : PageWords) (left : Left) (x : Option ℕ) (r : Step) (pages' blocks' : List ℕ) : Type 0 where
     pub within : Within pages blocks g pages' blocks'
     pub answer : answer_of r.answer.answer ≡ read_answer_of x
     pub count : r.answer.count ≡ 0
-    pub found : (v : ℕ) → x ≡ Value v
+    pub found : (v : ℕ) → x ≡ Some v
         → Stores (updates.Removed h (block_words_at blocks (g / 64)) g left Single 1) pages blocks g w r.window pages' blocks'
-    pub absent : x ≡ Absent → Untouched h pages blocks r.window pages' blocks'
+    pub absent : x ≡ None → Untouched h pages blocks r.window pages' blocks'
 
 -- ---- insert
 
@@ -113,32 +111,32 @@ module _ (h : AdaptiveReceiverPacketWindow) (m : Memory) (g n : ℕ) where
     pub refused : Placing → answer_of p.answer ≡ model.refused 4 → state_of p.window m' ≡ state_of h m
 
 -- an answer on a revived page: no refusal but 7
-pub record RevivedAnswer (a r : Answer) : Type 0 where
+pub record RevivedAnswer (a r : Result Answer Refusal) : Type 0 where
   pub taken : answer_of r ≡ model.refused 4 → ⊥
   pub same : is_new (answer_of a) ≡ true → answer_of r ≡ answer_of a
 
 -- the same, where k says whether the page was live
-pub record LiveAnswer (k : ℕ) (a r : Answer) : Type 0 where
-  pub revived : k ≡ 0 → RevivedAnswer a r
-  pub live : (k ≡ 0 → ⊥) → r ≡ a
+pub record LiveAnswer (k : Bool) (a r : Result Answer Refusal) : Type 0 where
+  pub revived : k ≡ false → RevivedAnswer a r
+  pub live : k ≡ true → r ≡ a
 
 -- page g made live, where k says whether it was: it is revived, or nothing is done
-pub record MakesLive (h : AdaptiveReceiverPacketWindow) (n : ℕ) (m : Memory) (l : List ℕ) (g k : ℕ) (r : PageReleased) (m' : Memory) (l' : List ℕ) : Type 0 where
-  pub revived : k ≡ 0 → Revives h n m.sequences m.values m.pages m.blocks l g r m'.pages m'.blocks l'
-  pub live : (k ≡ 0 → ⊥) → (r ≡ record { window = h; count = 0; sound = true }) × (m' ≡ m) × (l' ≡ l)
+pub record MakesLive (h : AdaptiveReceiverPacketWindow) (n : ℕ) (m : Memory) (l : List ℕ) (g : ℕ) (k : Bool) (r : PageReleased) (m' : Memory) (l' : List ℕ) : Type 0 where
+  pub revived : k ≡ false → Revives h n m.sequences m.values m.pages m.blocks l g r m'.pages m'.blocks l'
+  pub live : k ≡ true → (r ≡ record { window = h; count = 0; sound = true }) × (m' ≡ m) × (l' ≡ l)
 
 -- the insert into page g, which was made live as x says
-module _ (x : PageReleased) (m : Memory) (g n k s v : ℕ) (r : Step) (m' : Memory) where
+module _ (x : PageReleased) (m : Memory) (g n : ℕ) (k : Bool) (s v : ℕ) (r : Step) (m' : Memory) where
   pub record Entered : Type 0 where
     -- the answer of an insert into a live page
-    pub given : Answer
+    pub given : Result Answer Refusal
     pub inserts : InsertsLive x.window m g n s v (record { window = r.window; answer = given }) m'
     pub answers : LiveAnswer k given r.answer.answer
 
   -- refusal 7 if the page's words do not fit each other
   pub record Enters : Type 0 where
     pub count : r.answer.count ≡ x.count
-    pub unsound : x.sound ≡ false → (r.answer.answer ≡ Refused Unsound) × (state_of r.window m' ≡ state_of x.window m)
+    pub unsound : x.sound ≡ false → (r.answer.answer ≡ Err Unsound) × (state_of r.window m' ≡ state_of x.window m)
     pub sound : x.sound ≡ true → Entered
 
 -- ---- the point

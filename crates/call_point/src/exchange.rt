@@ -8,7 +8,6 @@ ghost use Rattle.call_point.specs.Promises.{ExchangesIn};
 
 use call_base::admits::{Arguments, NO_LIST, admits};
 use call_base::{reachable, read_answer, refuse, reply};
-use page_base::find::Read;
 use page_base::{PageWords, page_cells, page_words};
 use window::AdaptiveReceiverPacketWindow;
 use window::answers::{Answer, Step};
@@ -23,7 +22,7 @@ fn exchange_in_page(
     n: usize,
     sequence: u32,
     value: u32,
-) -> Read
+) -> Option<u32>
     requires { (page < 1024) × (64 * page + 64 ≤ length sequences.now) × (64 * page + 64 ≤ length values.old) × (n < 64) }
     ensures { ExchangesIn page n words sequences.now values.old sequence value result values.new }
 {
@@ -48,12 +47,12 @@ fn exchange_value(
 {
     let n = w.n as usize;
     let page = position(w.window_size, sequence) / PAGE_SLOTS;
-    if reachable(w, blocks, page) == 0 {
-        return reply(w, Answer::Absent);
+    if !reachable(w, blocks, page) {
+        return reply(w, Ok(Answer::Absent));
     }
     let words = page_words(pages, page);
     let read = exchange_in_page(sequences, values, words, page, n, sequence, value);
-    reply(w, read_answer(read))
+    reply(w, Ok(read_answer(read)))
 }
 
 pub fn exchange(

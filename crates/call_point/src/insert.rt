@@ -20,11 +20,11 @@ use window::answers::{Answer, Outcome, Step};
 use window::memory::{PAGE_SLOTS, position};
 use window::refusals::Refusal;
 
-// The header after an insert into a page, and the answer.
+// The header after an insert into a page, and the answer or refusal.
 #[derive(Clone, Copy)]
 pub struct Put {
     pub window: AdaptiveReceiverPacketWindow,
-    pub answer: Answer,
+    pub answer: Result<Answer, Refusal>,
 }
 
 // The sequence and the value into page `page`, which has these words.
@@ -120,13 +120,13 @@ fn made_live(
     returned: &mut [u32],
     page: usize,
     n: usize,
-    reach: u64,
+    reach: bool,
 ) -> PageReleased
     requires page_bound { (page < 1024) × (64 * page + 64 ≤ length sequences.now) × (64 * page + 64 ≤ length values.now) × (RowIn words_per_page page pages.old) }
     requires row_in { (RowIn words_per_block (page / 64) blocks.old) × (n < 64) × (64 ≤ length returned.old) }
     ensures { MakesLive w n (found_in (lent sequences) (lent values) (lent_mut pages) (lent_mut blocks)) returned.old page reach result (left_in (lent sequences) (lent values) (lent_mut pages) (lent_mut blocks)) returned.new }
 {
-    if reach == 0 {
+    if !reach {
         return revive(w, sequences, values, pages, blocks, returned, page, n);
     }
     PageReleased {
@@ -138,16 +138,13 @@ fn made_live(
 
 // The answer of an insert into a page that was made live. One that was revived is empty on a sound state: a refusal there means
 // that it was not.
-fn live_answer(answer: Answer, reach: u64) -> Answer
+fn live_answer(answer: Result<Answer, Refusal>, reach: bool) -> Result<Answer, Refusal>
     ensures { LiveAnswer reach answer result }
 {
-    if reach != 0 {
-        return answer;
+    match answer {
+        Err(_) if !reach => Err(Refusal::Unsound),
+        _ => answer,
     }
-    if let Answer::Refused(why) = answer {
-        return Answer::Refused(Refusal::Unsound);
-    }
-    answer
 }
 
 // The sequence and the value into page `page`, which was made live as `live` says.
@@ -159,7 +156,7 @@ fn enter(
     blocks: &mut [u64],
     page: usize,
     n: usize,
-    reach: u64,
+    reach: bool,
     sequence: u32,
     value: u32,
 ) -> Step
@@ -173,7 +170,7 @@ fn enter(
         return Step {
             window,
             answer: Outcome {
-                answer: Answer::Refused(Refusal::Unsound),
+                answer: Err(Refusal::Unsound),
                 count,
             },
         };
@@ -230,7 +227,7 @@ fn keep_point(
     let left = step.window;
     let outcome = step.answer;
     let given = outcome.answer;
-    if let Answer::New = given {
+    if let Ok(Answer::New) = given {
         return Step {
             window: after_insert(w, left, sequences, pages, blocks, sequence),
             answer: outcome,

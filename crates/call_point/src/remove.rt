@@ -10,7 +10,6 @@ ghost use Rattle.call_point.specs.Promises.{RemovesIn, KeepsRemoved, KeepsTaken}
 use acknowledge::after_remove;
 use call_base::admits::{Arguments, NO_LIST, admits};
 use call_base::{reachable, refuse, reply};
-use page_base::find::Read;
 use page_base::{Left, PageWords, page_words};
 use page_remove::Removed;
 use page_store::store::store_removed;
@@ -51,16 +50,16 @@ fn keep_removed(
     page: usize,
     words: PageWords,
     left: Left,
-    read: Read,
+    read: Option<u32>,
 ) -> Step
     requires { (page < 1024) × (RowIn words_per_page page pages.old) × (RowIn words_per_block (page / 64) blocks.old) }
     ensures { KeepsRemoved w pages.old blocks.old page words left read result pages.new blocks.new }
 {
-    if let Read::Value(value) = read {
+    if let Some(value) = read {
         let window = store_removed(w, pages, blocks, page, words, left, Cause::Single, 1);
-        return reply(window, Answer::Found(value));
+        return reply(window, Ok(Answer::Found(value)));
     }
-    reply(w, Answer::Absent)
+    reply(w, Ok(Answer::Absent))
 }
 
 // Once no refusal applies. Values of a retired page are not found.
@@ -78,8 +77,8 @@ pub fn remove_value(
     let n = w.n as usize;
     let demote_at = w.demote_at as usize;
     let page = position(w.window_size, sequence) / PAGE_SLOTS;
-    if reachable(w, blocks, page) == 0 {
-        return reply(w, Answer::Absent);
+    if !reachable(w, blocks, page) {
+        return reply(w, Ok(Answer::Absent));
     }
     let words = page_words(pages, page);
     let r = remove_in_page(sequences, values, words, page, n, demote_at, sequence);
@@ -96,7 +95,7 @@ fn keep_point(step: Step, sequence: u32) -> Step
     let left = step.window;
     let outcome = step.answer;
     let given = outcome.answer;
-    if let Answer::Found(value) = given {
+    if let Ok(Answer::Found(_)) = given {
         return Step {
             window: after_remove(left, sequence),
             answer: outcome,

@@ -31,7 +31,7 @@ pub fn set_base(
         Ok(()) => {
             reply(
                 after_base(w, w, sequences, pages, blocks, base),
-                Answer::Done,
+                Ok(Answer::Done),
             )
         }
         Err(why) => refuse(w, why),

@@ -26,7 +26,7 @@ fn move_base(
     let left = step.window;
     let outcome = step.answer;
     let given = outcome.answer;
-    if let Answer::Found(value) = given {
+    if let Ok(Answer::Found(_)) = given {
         let next = sequence_at(w.base, 1);
         return Step {
             window: after_base(w, left, sequences, pages, blocks, next),

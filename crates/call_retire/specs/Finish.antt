@@ -1,8 +1,7 @@
 -- The outcome of a call that filled its list, and the point after it. Definitions only. Assumes nothing.
-use Rattle.std.specs.Prelude.{◌≡◌, ℕ, Bool, cond}
+use Rattle.std.specs.Prelude.{◌≡◌, ℕ, Bool, cond, Ok, Err}
 use Rattle.window.specs.declared.AdaptiveReceiverPacketWindow.{AdaptiveReceiverPacketWindow}
 use Rattle.window.specs.declared.answers.Answer.{Answer}
-use Rattle.window.specs.declared.answers.Answer.TheVariants.{Refused}
 use Rattle.window.specs.declared.answers.Step.{Step}
 use Rattle.window.specs.declared.refusals.Refusal.TheVariants.{Unsound}
 use Rattle.window.specs.Memory.{capacity, position}
@@ -11,7 +10,7 @@ use Rattle.laws_acknowledge.specs.Increments.{after_range_of}
 
 -- the answer, or refusal 7, with `count` values returned
 unfoldable pub finished : AdaptiveReceiverPacketWindow → Answer → ℕ → Bool → Step
-finished w a count sound = record { window = w; answer = record { answer = cond sound a (Refused Unsound); count = count } }
+finished w a count sound = record { window = w; answer = record { answer = cond sound (Ok a) (Err Unsound); count = count } }
 
 -- ---- the point
 

@@ -25,7 +25,7 @@ pub fn finish(w: AdaptiveReceiverPacketWindow, answer: Answer, count: usize, sou
         return Step {
             window: w,
             answer: Outcome {
-                answer: Answer::Refused(Refusal::Unsound),
+                answer: Err(Refusal::Unsound),
                 count: returned,
             },
         };
@@ -33,7 +33,7 @@ pub fn finish(w: AdaptiveReceiverPacketWindow, answer: Answer, count: usize, sou
     Step {
         window: w,
         answer: Outcome {
-            answer,
+            answer: Ok(answer),
             count: returned,
         },
     }

@@ -33,7 +33,7 @@ pub fn release_retired(
         Ok(()) => {
             if w.retired_held == 0 {
                 if w.retired_blocks == 0 {
-                    return reply(w, Answer::Released(0, 0));
+                    return reply(w, Ok(Answer::Released(0, 0)));
                 }
             }
             let limit = budget as usize;

@@ -80,7 +80,7 @@ fn remove_positions(
     let retired = retire(w, sequences, values, pages, blocks, returned, start, count);
     let left = retired.window;
     let at = retired.count;
-    let removed = std::num::wrapping_sub_u32(w.len, left.len);
+    let removed = w.len.wrapping_sub(left.len);
     if left.retired_held == 0 {
         return finish(left, Answer::Found(removed), at, retired.sound);
     }
