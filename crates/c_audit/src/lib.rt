@@ -6,7 +6,7 @@ ghost use Rattle.window.specs.Lent.{lent, lent_mut};
 ghost use Rattle.model.specs.Calls.{stranger as stranger_of, check as check_of, set_base, take_front, ask};
 ghost use Rattle.c_calls.specs.Numbers.{NumbersMeetBy};
 
-use c_calls::{NumberedStep, in_numbers};
+use c_calls::NumberedStep;
 use call_check::check;
 use call_point::set_base::set_base;
 use call_point::take_front::take_front;
@@ -25,7 +25,7 @@ pub extern "C" fn packet_window_stranger(
 ) -> NumberedStep
     ensures { NumbersMeetBy (ask (stranger_of first last)) w (lent sequences) (lent values) (lent pages) (lent blocks) result }
 {
-    in_numbers(stranger(w, sequences, values, pages, blocks, first, last))
+    NumberedStep::from(stranger(w, sequences, values, pages, blocks, first, last))
 }
 
 #[unsafe(no_mangle)]
@@ -38,7 +38,7 @@ pub extern "C" fn packet_window_check(
 ) -> NumberedStep
     ensures { NumbersMeetBy (ask check_of) w (lent sequences) (lent values) (lent pages) (lent blocks) result }
 {
-    in_numbers(check(w, sequences, values, pages, blocks))
+    NumberedStep::from(check(w, sequences, values, pages, blocks))
 }
 
 #[unsafe(no_mangle)]
@@ -52,7 +52,7 @@ pub extern "C" fn packet_window_set_base(
 ) -> NumberedStep
     ensures { NumbersMeetBy (set_base base) w (lent sequences) (lent values) (lent pages) (lent blocks) result }
 {
-    in_numbers(set_base(w, sequences, values, pages, blocks, base))
+    NumberedStep::from(set_base(w, sequences, values, pages, blocks, base))
 }
 
 #[unsafe(no_mangle)]
@@ -65,5 +65,5 @@ pub extern "C" fn packet_window_take_front(
 ) -> NumberedStep
     ensures { NumbersMeetBy take_front w (lent_mut sequences) (lent_mut values) (lent_mut pages) (lent_mut blocks) result }
 {
-    in_numbers(take_front(w, sequences, values, pages, blocks))
+    NumberedStep::from(take_front(w, sequences, values, pages, blocks))
 }

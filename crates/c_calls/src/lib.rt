@@ -16,9 +16,9 @@ use call_point::exchange::exchange;
 use call_point::insert::insert;
 use call_point::remove::remove;
 use call_read::{first_from, get, iter, successor_after};
+use window::AdaptiveReceiverPacketWindow;
 use window::answers::{Answer, Step};
-use window::refusals::refusal_number;
-use window::{AdaptiveReceiverPacketWindow, Created};
+use window::refusals::Refusal;
 
 // code: 0 done, 1 new, 2 replaced, 3 absent, 4 found, 5 a pair, 6 released, 7 refused; then the values of the answer, or the
 // refusal's number.
@@ -53,66 +53,65 @@ fn numbered(code: u32, first: u32, second: u32, third: u32, fourth: u32) -> Numb
     }
 }
 
-// An answer in numbers.
-pub fn numbers(answer: Answer) -> NumberedAnswer
-    ensures { result ≡ numbers_of (answer_of answer) }
-{
-    match answer {
-        Answer::Done => numbered(0, 0, 0, 0, 0),
-        Answer::New => numbered(1, 0, 0, 0, 0),
-        Answer::Replaced(value) => numbered(2, value, 0, 0, 0),
-        Answer::Absent => numbered(3, 0, 0, 0, 0),
-        Answer::Found(number) => numbered(4, number, 0, 0, 0),
-        Answer::Pair(sequence, value, next, reads) => numbered(5, sequence, value, next, reads),
-        Answer::Ended(reads) => numbered(0, 0, 0, 0, reads),
-        Answer::Released(values, units) => numbered(6, values, units, 0, 0),
-        Answer::Refused(why) => numbered(7, refusal_number(why), 0, 0, 0),
+// An answer or a refusal in numbers.
+impl From<Result<Answer, Refusal>> for NumberedAnswer {
+    ghost use Rattle.call_base.specs.Answers.{answer_of};
+    ghost use Rattle.c_calls.specs.Numbers.{numbers_of};
+
+    ghost from_gives = { λ answer result. result ≡ numbers_of (answer_of answer) };
+
+    fn from(answer: Result<Answer, Refusal>) -> NumberedAnswer {
+        match answer {
+            Ok(Answer::Done) => numbered(0, 0, 0, 0, 0),
+            Ok(Answer::New) => numbered(1, 0, 0, 0, 0),
+            Ok(Answer::Replaced(value)) => numbered(2, value, 0, 0, 0),
+            Ok(Answer::Absent) => numbered(3, 0, 0, 0, 0),
+            Ok(Answer::Found(number)) => numbered(4, number, 0, 0, 0),
+            Ok(Answer::Pair(sequence, value, next, reads)) => numbered(
+                5, sequence, value, next, reads,
+            ),
+            Ok(Answer::Ended(reads)) => numbered(0, 0, 0, 0, reads),
+            Ok(Answer::Released(values, units)) => numbered(6, values, units, 0, 0),
+            Err(why) => numbered(7, u32::from(why), 0, 0, 0),
+        }
     }
 }
 
 // A step in numbers.
-pub fn in_numbers(step: Step) -> NumberedStep
-    ensures { SameStep step result }
-{
-    let window = step.window;
-    let outcome = step.answer;
-    let given = outcome.answer;
-    let count = outcome.count;
-    let answer = numbers(given);
-    NumberedStep {
-        window,
-        answer,
-        count,
-    }
-}
+impl From<Step> for NumberedStep {
+    ghost use Rattle.c_calls.specs.Numbers.{SameStep};
 
-fn numbered_step(window: AdaptiveReceiverPacketWindow, answer: NumberedAnswer) -> NumberedStep
-    ensures { result ≡ record { window = window; answer = answer; count = 0 } }
-{
-    NumberedStep {
-        window,
-        answer,
-        count: 0,
-    }
-}
+    ghost from_gives = { λ step result. SameStep step result };
 
-// A header of zeros.
-fn no_window() -> AdaptiveReceiverPacketWindow
-    ensures { result ≡ fresh 0 0 0 }
-{
-    AdaptiveReceiverPacketWindow::fresh(0, 0, 0)
+    fn from(step: Step) -> NumberedStep {
+        NumberedStep {
+            window: step.window,
+            answer: NumberedAnswer::from(step.answer.answer),
+            count: step.answer.count,
+        }
+    }
 }
 
 // What new gives in numbers; a refusal comes with a header of zeros, with which every call is refused 6.
-fn created(made: Created) -> NumberedStep
-    ensures { result ≡ numbers_of_new (new_answer_of made) }
-{
-    match made {
-        Created::New(window) => numbered_step(window, numbered(0, 0, 0, 0, 0)),
-        Created::Refused(why) => numbered_step(
-            no_window(),
-            numbered(7, refusal_number(why), 0, 0, 0),
-        ),
+impl From<Result<AdaptiveReceiverPacketWindow, Refusal>> for NumberedStep {
+    ghost use Rattle.window.specs.New.{answer_of};
+    ghost use Rattle.c_calls.specs.Numbers.{numbers_of_new};
+
+    ghost from_gives = { λ made result. result ≡ numbers_of_new (answer_of made) };
+
+    fn from(made: Result<AdaptiveReceiverPacketWindow, Refusal>) -> NumberedStep {
+        match made {
+            Ok(window) => NumberedStep {
+                window,
+                answer: numbered(0, 0, 0, 0, 0),
+                count: 0,
+            },
+            Err(why) => NumberedStep {
+                window: AdaptiveReceiverPacketWindow::fresh(0, 0, 0),
+                answer: numbered(7, u32::from(why), 0, 0, 0),
+                count: 0,
+            },
+        }
     }
 }
 
@@ -128,7 +127,7 @@ pub extern "C" fn packet_window_new(
 ) -> NumberedStep
     ensures { CreatesBy window_size n demote_at (lent_mut sequences) (lent_mut values) (lent_mut pages) (lent_mut blocks) result }
 {
-    created(AdaptiveReceiverPacketWindow::new(
+    NumberedStep::from(AdaptiveReceiverPacketWindow::new(
         sequences,
         values,
         pages,
@@ -150,7 +149,7 @@ pub extern "C" fn packet_window_get(
 ) -> NumberedStep
     ensures { NumbersMeetBy (ask (get_of sequence)) w (lent sequences) (lent values) (lent pages) (lent blocks) result }
 {
-    in_numbers(get(w, sequences, values, pages, blocks, sequence))
+    NumberedStep::from(get(w, sequences, values, pages, blocks, sequence))
 }
 
 #[unsafe(no_mangle)]
@@ -164,7 +163,7 @@ pub extern "C" fn packet_window_successor_after(
 ) -> NumberedStep
     ensures { NumbersMeetBy (ask (successor_after sequence)) w (lent sequences) (lent values) (lent pages) (lent blocks) result }
 {
-    in_numbers(successor_after(w, sequences, values, pages, blocks, sequence))
+    NumberedStep::from(successor_after(w, sequences, values, pages, blocks, sequence))
 }
 
 #[unsafe(no_mangle)]
@@ -178,7 +177,7 @@ pub extern "C" fn packet_window_first_from(
 ) -> NumberedStep
     ensures { NumbersMeetBy (ask (first_from sequence)) w (lent sequences) (lent values) (lent pages) (lent blocks) result }
 {
-    in_numbers(first_from(w, sequences, values, pages, blocks, sequence))
+    NumberedStep::from(first_from(w, sequences, values, pages, blocks, sequence))
 }
 
 #[unsafe(no_mangle)]
@@ -192,7 +191,7 @@ pub extern "C" fn packet_window_iter(
 ) -> NumberedStep
     ensures { NumbersMeetBy (ask (iter_of cell)) w (lent sequences) (lent values) (lent pages) (lent blocks) result }
 {
-    in_numbers(iter(w, sequences, values, pages, blocks, cell))
+    NumberedStep::from(iter(w, sequences, values, pages, blocks, cell))
 }
 
 #[unsafe(no_mangle)]
@@ -207,7 +206,7 @@ pub extern "C" fn packet_window_exchange(
 ) -> NumberedStep
     ensures { NumbersMeetBy (exchange_of sequence value) w (lent sequences) (lent_mut values) (lent pages) (lent blocks) result }
 {
-    in_numbers(exchange(w, sequences, values, pages, blocks, sequence, value))
+    NumberedStep::from(exchange(w, sequences, values, pages, blocks, sequence, value))
 }
 
 #[unsafe(no_mangle)]
@@ -221,7 +220,7 @@ pub extern "C" fn packet_window_remove(
 ) -> NumberedStep
     ensures { NumbersMeetBy (remove_of sequence) w (lent_mut sequences) (lent_mut values) (lent_mut pages) (lent_mut blocks) result }
 {
-    in_numbers(remove(w, sequences, values, pages, blocks, sequence))
+    NumberedStep::from(remove(w, sequences, values, pages, blocks, sequence))
 }
 
 #[unsafe(no_mangle)]
@@ -237,7 +236,7 @@ pub extern "C" fn packet_window_insert(
 ) -> NumberedStep
     ensures { NumbersMeetInto (insert_of sequence value) w (lent_mut sequences) (lent_mut values) (lent_mut pages) (lent_mut blocks) (lent_mut returned) result }
 {
-    in_numbers(insert(
+    NumberedStep::from(insert(
         w, sequences, values, pages, blocks, returned, sequence, value,
     ))
 }

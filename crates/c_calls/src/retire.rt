@@ -3,7 +3,7 @@ ghost use Rattle.window.specs.Lent.{lent, lent_mut};
 ghost use Rattle.model.specs.Calls.{remove_range, clear as clear_of, clear_bounded, release_retired};
 ghost use Rattle.c_calls.specs.Numbers.{NumbersMeetInto};
 
-use crate::{NumberedStep, in_numbers};
+use crate::NumberedStep;
 use call_retire::clear::clear;
 use call_retire::clear_bounded::clear_bounded;
 use call_retire::release_retired::release_retired;
@@ -23,7 +23,7 @@ pub extern "C" fn packet_window_remove_range(
 ) -> NumberedStep
     ensures { NumbersMeetInto (remove_range first last) w (lent_mut sequences) (lent_mut values) (lent_mut pages) (lent_mut blocks) (lent_mut returned) result }
 {
-    in_numbers(remove_range(w, sequences, values, pages, blocks, returned, first, last))
+    NumberedStep::from(remove_range(w, sequences, values, pages, blocks, returned, first, last))
 }
 
 #[unsafe(no_mangle)]
@@ -38,7 +38,7 @@ pub extern "C" fn packet_window_release_retired(
 ) -> NumberedStep
     ensures { NumbersMeetInto (release_retired budget) w (lent sequences) (lent values) (lent_mut pages) (lent_mut blocks) (lent_mut returned) result }
 {
-    in_numbers(release_retired(w, sequences, values, pages, blocks, returned, budget))
+    NumberedStep::from(release_retired(w, sequences, values, pages, blocks, returned, budget))
 }
 
 #[unsafe(no_mangle)]
@@ -52,7 +52,7 @@ pub extern "C" fn packet_window_clear(
 ) -> NumberedStep
     ensures { NumbersMeetInto clear_of w (lent sequences) (lent values) (lent_mut pages) (lent_mut blocks) (lent_mut returned) result }
 {
-    in_numbers(clear(w, sequences, values, pages, blocks, returned))
+    NumberedStep::from(clear(w, sequences, values, pages, blocks, returned))
 }
 
 #[unsafe(no_mangle)]
@@ -67,5 +67,5 @@ pub extern "C" fn packet_window_clear_bounded(
 ) -> NumberedStep
     ensures { NumbersMeetInto (clear_bounded number) w (lent sequences) (lent values) (lent_mut pages) (lent_mut blocks) (lent_mut returned) result }
 {
-    in_numbers(clear_bounded(w, sequences, values, pages, blocks, returned, number))
+    NumberedStep::from(clear_bounded(w, sequences, values, pages, blocks, returned, number))
 }

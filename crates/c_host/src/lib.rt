@@ -6,7 +6,7 @@ ghost use Rattle.window.specs.Lent.{lent, lent_mut};
 ghost use Rattle.model.specs.Calls.{insert as insert_of, remove as remove_of, release_retired};
 ghost use Rattle.c_host.specs.Outcomes.{SameOutcome, OutcomeMeetsBy, OutcomeMeetsInto};
 
-use c_calls::{NumberedAnswer, numbers};
+use c_calls::NumberedAnswer;
 use window::AdaptiveReceiverPacketWindow;
 use window::answers::Outcome;
 
@@ -19,13 +19,17 @@ pub struct NumberedOutcome {
 }
 
 // An outcome in numbers.
-fn outcome_in_numbers(outcome: Outcome) -> NumberedOutcome
-    ensures { SameOutcome outcome result }
-{
-    let given = outcome.answer;
-    let count = outcome.count;
-    let answer = numbers(given);
-    NumberedOutcome { answer, count }
+impl From<Outcome> for NumberedOutcome {
+    ghost use Rattle.c_host.specs.Outcomes.{SameOutcome};
+
+    ghost from_gives = { λ outcome result. SameOutcome outcome result };
+
+    fn from(outcome: Outcome) -> NumberedOutcome {
+        NumberedOutcome {
+            answer: NumberedAnswer::from(outcome.answer),
+            count: outcome.count,
+        }
+    }
 }
 
 #[unsafe(no_mangle)]
@@ -41,7 +45,7 @@ pub extern "C" fn packet_window_host_insert(
 ) -> NumberedOutcome
     ensures { OutcomeMeetsInto (insert_of sequence value) w (lent_mut sequences) (lent_mut values) (lent_mut pages) (lent_mut blocks) (lent_mut returned) result }
 {
-    outcome_in_numbers(call_host::insert(
+    NumberedOutcome::from(call_host::insert(
         w, sequences, values, pages, blocks, returned, sequence, value,
     ))
 }
@@ -57,7 +61,7 @@ pub extern "C" fn packet_window_host_remove(
 ) -> NumberedOutcome
     ensures { OutcomeMeetsBy (remove_of sequence) w (lent_mut sequences) (lent_mut values) (lent_mut pages) (lent_mut blocks) result }
 {
-    outcome_in_numbers(call_host::remove(w, sequences, values, pages, blocks, sequence))
+    NumberedOutcome::from(call_host::remove(w, sequences, values, pages, blocks, sequence))
 }
 
 #[unsafe(no_mangle)]
@@ -72,7 +76,7 @@ pub extern "C" fn packet_window_host_release_retired(
 ) -> NumberedOutcome
     ensures { OutcomeMeetsInto (release_retired budget) w (lent sequences) (lent values) (lent_mut pages) (lent_mut blocks) (lent_mut returned) result }
 {
-    outcome_in_numbers(call_host::release_retired(
+    NumberedOutcome::from(call_host::release_retired(
         w, sequences, values, pages, blocks, returned, budget,
     ))
 }

@@ -4,7 +4,7 @@
 ghost use Rattle.window.specs.Lent.{lent, lent_mut};
 ghost use Rattle.c_losses.specs.Promises.{NumbersWriteLossesBy, NumbersReadLossesBy};
 
-use c_calls::{NumberedStep, in_numbers};
+use c_calls::NumberedStep;
 use call_losses::{read_losses, write_losses};
 use window::AdaptiveReceiverPacketWindow;
 
@@ -21,7 +21,7 @@ pub extern "C" fn packet_window_write_losses(
 ) -> NumberedStep
     ensures { NumbersWriteLossesBy first last w (lent sequences) (lent values) (lent pages) (lent blocks) (lent_mut words) result }
 {
-    in_numbers(write_losses(w, sequences, values, pages, blocks, words, first, last))
+    NumberedStep::from(write_losses(w, sequences, values, pages, blocks, words, first, last))
 }
 
 #[unsafe(no_mangle)]
@@ -38,7 +38,7 @@ pub extern "C" fn packet_window_read_losses(
 ) -> NumberedStep
     ensures { NumbersReadLossesBy first last w (lent sequences) (lent values) (lent pages) (lent blocks) (lent words) (lent_mut lost) result }
 {
-    in_numbers(read_losses(
+    NumberedStep::from(read_losses(
         w, sequences, values, pages, blocks, words, lost, first, last,
     ))
 }

@@ -75,9 +75,7 @@ pub fn exchange(
         NO_LIST,
         Arguments::Sequence(sequence),
     ) {
-        Ok(()) => {
-            exchange_value(w, sequences, values, pages, blocks, sequence, value)
-        }
+        Ok(()) => { exchange_value(w, sequences, values, pages, blocks, sequence, value) }
         Err(why) => refuse(w, why),
     }
 }

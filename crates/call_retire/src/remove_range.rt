@@ -136,7 +136,9 @@ pub fn remove_range(
         Ok(()) => {
             let start = position(w.window_size, first);
             let count = range_count(first, last) as usize;
-            let step = remove_positions(w, sequences, values, pages, blocks, returned, start, count);
+            let step = remove_positions(
+                w, sequences, values, pages, blocks, returned, start, count,
+            );
             keep_point(step, w.window_size, first, count)
         }
         Err(why) => refuse(w, why),
