@@ -8,20 +8,20 @@ use Rattle.call_base.proofs.MeetsLaws.{asked-refusal, asked-fits, asked-meets}
 use Rattle.call_read.proofs.RoundLaws.{from_is}
 use Rattle.call_read.proofs.first_from.Goals as goal
 
-pub returns-in-Refuse : goal.returns-in-Refuse
-returns-in-Refuse c =
+pub returns-in-Err : goal.returns-in-Err
+returns-in-Err c =
     let s = c.args in
-    asked-refusal (first_from s.sequence) (state_of s.w (memory s.sequences.now s.values.now s.pages.now s.blocks.now)) c.admits-verdict.result c.admits-verdict.ensures _ _ c.in-Refuse.is c.refuse.ensures
+    asked-refusal (first_from s.sequence) (state_of s.w (memory s.sequences.now s.values.now s.pages.now s.blocks.now)) _ _ c.in-Err.ensures c.refuse.ensures
 
 pub find_round-requires : goal.find_round-requires
 find_round-requires c =
     let s = c.args in
-    let fit : ListsFit s.w s.sequences.now s.values.now s.pages.now s.blocks.now = asked-fits (first_from s.sequence) (state_of s.w (memory s.sequences.now s.values.now s.pages.now s.blocks.now)) c.admits-verdict.result c.admits-verdict.ensures c.in_default.in_default-own.keys2 in
+    let fit : ListsFit s.w s.sequences.now s.values.now s.pages.now s.blocks.now = asked-fits (first_from s.sequence) (state_of s.w (memory s.sequences.now s.values.now s.pages.now s.blocks.now)) c.in-Ok.ensures in
     let f = fit in record { window_size_bound = (f.within.size_high, omega (arith, f.within.n_high)); window_size_in_bounds = (f.long.sequences_long, f.long.pages_long, f.long.blocks_long) }
 
-pub returns : goal.returns
-returns c =
+pub returns-in-Ok : goal.returns-in-Ok
+returns-in-Ok c =
     let s = c.args in
-    asked-meets (first_from s.sequence) (state_of s.w (memory s.sequences.now s.values.now s.pages.now s.blocks.now)) c.admits-verdict.result c.admits-verdict.ensures c.in_default.in_default-own.keys2 _ _ c.reply.ensures refl
+    asked-meets (first_from s.sequence) (state_of s.w (memory s.sequences.now s.values.now s.pages.now s.blocks.now)) c.in-Ok.ensures _ _ c.reply.ensures refl
     (λ ok. c.find_round.ensures.gives s.values.now ok
     ∙ from_is s.w (memory s.sequences.now s.values.now s.pages.now s.blocks.now) s.sequence c.wrapping_sub_u32-before.result c.wrapping_sub_u32-before.ensures.value)

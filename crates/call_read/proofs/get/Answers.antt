@@ -7,19 +7,19 @@ use Rattle.call_base.specs.Answers.{state_of}
 use Rattle.call_base.proofs.MeetsLaws.{asked-refusal, asked-fits, asked-meets}
 use Rattle.call_read.proofs.get.Goals as goal
 
-pub returns-in-Refuse : goal.returns-in-Refuse
-returns-in-Refuse c =
+pub returns-in-Err : goal.returns-in-Err
+returns-in-Err c =
     let s = c.args in
-    asked-refusal (get s.sequence) (state_of s.w (memory s.sequences.now s.values.now s.pages.now s.blocks.now)) c.admits-verdict.result c.admits-verdict.ensures _ _ c.in-Refuse.is c.refuse.ensures
+    asked-refusal (get s.sequence) (state_of s.w (memory s.sequences.now s.values.now s.pages.now s.blocks.now)) _ _ c.in-Err.ensures c.refuse.ensures
 
 pub value_of-requires : goal.value_of-requires
 value_of-requires c =
     let s = c.args in
-    let fit : ListsFit s.w s.sequences.now s.values.now s.pages.now s.blocks.now = asked-fits (get s.sequence) (state_of s.w (memory s.sequences.now s.values.now s.pages.now s.blocks.now)) c.admits-verdict.result c.admits-verdict.ensures c.in_default.in_default-own.keys2 in
+    let fit : ListsFit s.w s.sequences.now s.values.now s.pages.now s.blocks.now = asked-fits (get s.sequence) (state_of s.w (memory s.sequences.now s.values.now s.pages.now s.blocks.now)) c.in-Ok.ensures in
     fit
 
-pub returns : goal.returns
-returns c =
+pub returns-in-Ok : goal.returns-in-Ok
+returns-in-Ok c =
     let s = c.args in
-    asked-meets (get s.sequence) (state_of s.w (memory s.sequences.now s.values.now s.pages.now s.blocks.now)) c.admits-verdict.result c.admits-verdict.ensures c.in_default.in_default-own.keys2 _ _ c.reply.ensures refl
+    asked-meets (get s.sequence) (state_of s.w (memory s.sequences.now s.values.now s.pages.now s.blocks.now)) c.in-Ok.ensures _ _ c.reply.ensures refl
     c.value_of.ensures

@@ -8,16 +8,16 @@ use Rattle.call_base.proofs.MeetsLaws.{refusal-meets, admitted-fits, window-aske
 use Rattle.call_point.proofs.AcknowledgeLaws.{remove-acts}
 use Rattle.call_point.proofs.remove.remove.Goals as goal
 
-pub returns-in-Refuse : goal.returns-in-Refuse
-returns-in-Refuse c =
-    refusal-meets ((remove c.args.sequence)) ((state_of c.args.w (memory c.args.sequences.now c.args.values.now c.args.pages.now c.args.blocks.now))) 384 refl c.admits-verdict.result c.admits-verdict.ensures [] _ c.refuse.result c.in-Refuse.is c.refuse.ensures
+pub returns-in-Err : goal.returns-in-Err
+returns-in-Err c =
+    refusal-meets ((remove c.args.sequence)) ((state_of c.args.w (memory c.args.sequences.now c.args.values.now c.args.pages.now c.args.blocks.now))) 384 refl [] _ c.refuse.result c.in-Err.ensures c.refuse.ensures
 
 pub remove_value-step-requires : goal.remove_value-step-requires
 remove_value-step-requires c =
-    admitted-fits ((remove c.args.sequence)) ((state_of c.args.w (memory c.args.sequences.now c.args.values.now c.args.pages.now c.args.blocks.now))) 384 refl c.admits-verdict.result c.admits-verdict.ensures c.in_default.in_default-own.keys2
+    admitted-fits ((remove c.args.sequence)) ((state_of c.args.w (memory c.args.sequences.now c.args.values.now c.args.pages.now c.args.blocks.now))) 384 refl c.in-Ok.ensures
 
-pub returns : goal.returns
-returns c =
-    let z = window-asked ((remove c.args.sequence)) ((state_of c.args.w (memory c.args.sequences.now c.args.values.now c.args.pages.now c.args.blocks.now))) 384 refl c.admits-verdict.result c.admits-verdict.ensures c.in_default.in_default-own.keys2 in
-    admitted-meets ((remove c.args.sequence)) ((state_of c.args.w (memory c.args.sequences.now c.args.values.now c.args.pages.now c.args.blocks.now))) 384 refl c.admits-verdict.result c.admits-verdict.ensures c.in_default.in_default-own.keys2 [] _ refl
+pub returns-in-Ok : goal.returns-in-Ok
+returns-in-Ok c =
+    let z = window-asked ((remove c.args.sequence)) ((state_of c.args.w (memory c.args.sequences.now c.args.values.now c.args.pages.now c.args.blocks.now))) 384 refl c.in-Ok.ensures in
+    admitted-meets ((remove c.args.sequence)) ((state_of c.args.w (memory c.args.sequences.now c.args.values.now c.args.pages.now c.args.blocks.now))) 384 refl c.in-Ok.ensures [] _ refl
     (remove-acts c.args.sequence ((state_of c.args.w (memory c.args.sequences.now c.args.values.now c.args.pages.now c.args.blocks.now))) c.remove_value-step.result _ c.remove_value-step.ensures z c.keep_point.result c.keep_point.ensures)

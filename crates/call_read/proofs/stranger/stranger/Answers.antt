@@ -9,19 +9,19 @@ use Rattle.call_base.proofs.RangeLaws.{count-taken}
 use Rattle.model.specs.Steps.{known_by}
 use Rattle.call_read.proofs.stranger.stranger.Goals as goal
 
-pub returns-in-Refuse : goal.returns-in-Refuse
-returns-in-Refuse c =
+pub returns-in-Err : goal.returns-in-Err
+returns-in-Err c =
     let s = c.args in
-    asked-refusal (stranger s.first s.last) (state_of s.w (memory s.sequences.now s.values.now s.pages.now s.blocks.now)) c.admits-verdict.result c.admits-verdict.ensures _ _ c.in-Refuse.is c.refuse.ensures
+    asked-refusal (stranger s.first s.last) (state_of s.w (memory s.sequences.now s.values.now s.pages.now s.blocks.now)) _ _ c.in-Err.ensures c.refuse.ensures
 
 pub first_stranger-requires : goal.first_stranger-requires
 first_stranger-requires c =
     let s = c.args in
-    let fit : ListsFit s.w s.sequences.now s.values.now s.pages.now s.blocks.now = asked-fits (stranger s.first s.last) (state_of s.w (memory s.sequences.now s.values.now s.pages.now s.blocks.now)) c.admits-verdict.result c.admits-verdict.ensures c.in_default.in_default-own.keys2 in
-    (fit, count-taken (known_by s.w) s.first s.last (asked-arguments (stranger s.first s.last) (state_of s.w (memory s.sequences.now s.values.now s.pages.now s.blocks.now)) c.admits-verdict.result c.admits-verdict.ensures c.in_default.in_default-own.keys2))
+    let fit : ListsFit s.w s.sequences.now s.values.now s.pages.now s.blocks.now = asked-fits (stranger s.first s.last) (state_of s.w (memory s.sequences.now s.values.now s.pages.now s.blocks.now)) c.in-Ok.ensures in
+    (fit, count-taken (known_by s.w) s.first s.last (asked-arguments (stranger s.first s.last) (state_of s.w (memory s.sequences.now s.values.now s.pages.now s.blocks.now)) c.in-Ok.ensures))
 
-pub returns : goal.returns
-returns c =
+pub returns-in-Ok : goal.returns-in-Ok
+returns-in-Ok c =
     let s = c.args in
-    asked-meets (stranger s.first s.last) (state_of s.w (memory s.sequences.now s.values.now s.pages.now s.blocks.now)) c.admits-verdict.result c.admits-verdict.ensures c.in_default.in_default-own.keys2 _ _ c.reply.ensures refl
+    asked-meets (stranger s.first s.last) (state_of s.w (memory s.sequences.now s.values.now s.pages.now s.blocks.now)) c.in-Ok.ensures _ _ c.reply.ensures refl
     c.first_stranger.ensures

@@ -17,38 +17,38 @@ use Rattle.call_retire.proofs.ReleaseLaws.{none-fills, release-fills}
 use Rattle.call_retire.proofs.release_retired.release_retired.Goals as goal
 use Rattle.call_retire.proofs.release_retired.release_retired.Goals.{In_default}
 
-pub returns-in-Refuse : goal.returns-in-Refuse
-returns-in-Refuse c =
+pub returns-in-Err : goal.returns-in-Err
+returns-in-Err c =
     let s = c.args in
     refusal-meets (release_retired s.budget (leb 384 (length s.returned.now))) (state_of s.w (memory s.sequences.now s.values.now s.pages.now s.blocks.now)) (length s.returned.now) refl
-    c.admits-verdict.result c.admits-verdict.ensures s.returned.now _ _ c.in-Refuse.is c.refuse.ensures
+    s.returned.now _ _ c.in-Err.ensures c.refuse.ensures
 
 -- past the refusals
 fit : (c : In_default) → let s = c.args in ListsFit s.w s.sequences.now s.values.now s.pages.now s.blocks.now
 fit c =
     let s = c.args in
     admitted-fits (release_retired s.budget (leb 384 (length s.returned.now))) (state_of s.w (memory s.sequences.now s.values.now s.pages.now s.blocks.now)) (length s.returned.now) refl
-    c.admits-verdict.result c.admits-verdict.ensures c.in_default.in_default-own.keys2
+    c.in-Ok.ensures
 
 long : (c : In_default) → 384 ≤ length c.args.returned.now
 long c =
     let s = c.args in
     admitted-places (release_retired s.budget (leb 384 (length s.returned.now))) (state_of s.w (memory s.sequences.now s.values.now s.pages.now s.blocks.now)) (length s.returned.now) refl
-    c.admits-verdict.result c.admits-verdict.ensures c.in_default.in_default-own.keys2
+    c.in-Ok.ensures
 
 few : (c : In_default) → c.args.budget ≤ 256
 few c =
     let s = c.args in
     number-taken (known_by s.w) s.budget
     (admitted-arguments (release_retired s.budget (leb 384 (length s.returned.now))) (state_of s.w (memory s.sequences.now s.values.now s.pages.now s.blocks.now)) (length s.returned.now) refl
-    c.admits-verdict.result c.admits-verdict.ensures c.in_default.in_default-own.keys2)
+    c.in-Ok.ensures)
 
 -- nothing is held
 pub returns-then-w-eq0-2 : goal.returns-then-w-eq0-2
 returns-then-w-eq0-2 c =
     let s = c.args in
     filled-meets (release_retired s.budget (leb 384 (length s.returned.now))) (state_of s.w (memory s.sequences.now s.values.now s.pages.now s.blocks.now)) (length s.returned.now) refl
-    c.admits-verdict.result c.admits-verdict.ensures c.in_default.in_default-own.keys2 s.returned.now _ _ refl refl
+    c.in-Ok.ensures s.returned.now _ _ refl refl
     _ (release-does s.w (memory s.sequences.now s.values.now s.pages.now s.blocks.now) s.budget (leb 384 (length s.returned.now)))
     (subst (λ (y : Step). Fills (λ (w : Window). release_step w s.budget) (state_of s.w (memory s.sequences.now s.values.now s.pages.now s.blocks.now)) s.returned.now
     (left_of y (memory s.sequences.now s.values.now s.pages.now s.blocks.now) s.returned.now)) (sym c.reply.ensures)
@@ -80,13 +80,13 @@ finish-requires c =
     let p = c.release_retired-visited.ensures in
     omega (arith, p.few, p.paid, few (goal.at.finish-requires c).In_default)
 
-pub returns : goal.returns
-returns c =
+pub returns-in-Ok : goal.returns-in-Ok
+returns-in-Ok c =
     let s = c.args in
     let t = c.release_retired-visited in
     let at = (goal.at.returns c).In_default in
     filled-meets (release_retired s.budget (leb 384 (length s.returned.now))) (state_of s.w (memory s.sequences.now s.values.now s.pages.now s.blocks.now)) (length s.returned.now) refl
-    c.admits-verdict.result c.admits-verdict.ensures c.in_default.in_default-own.keys2 s.returned.now _ _ refl refl
+    c.in-Ok.ensures s.returned.now _ _ refl refl
     _ (release-does s.w (memory s.sequences.now s.values.now s.pages.now s.blocks.now) s.budget (leb 384 (length s.returned.now)))
     (subst (λ (y : Step). Fills (λ (w : Window). release_step w s.budget) (state_of s.w (memory s.sequences.now s.values.now s.pages.now s.blocks.now)) s.returned.now
     (left_of y (memory s.sequences.now s.values.now t.new.pages t.new.blocks) t.new.returned)) (sym c.finish.ensures)

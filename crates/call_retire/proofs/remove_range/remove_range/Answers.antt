@@ -17,31 +17,31 @@ use Rattle.call_retire.proofs.AcknowledgeLaws.{range-acts}
 use Rattle.call_retire.proofs.remove_range.remove_range.Goals as goal
 use Rattle.call_retire.proofs.remove_range.remove_range.Goals.{In_default}
 
-pub returns-in-Refuse : goal.returns-in-Refuse
-returns-in-Refuse c =
+pub returns-in-Err : goal.returns-in-Err
+returns-in-Err c =
     let s = c.args in
     refusal-meets (remove_range s.first s.last (leb 384 (length s.returned.now))) (state_of s.w (memory s.sequences.now s.values.now s.pages.now s.blocks.now)) (length s.returned.now) refl
-    c.admits-verdict.result c.admits-verdict.ensures s.returned.now _ _ c.in-Refuse.is c.refuse.ensures
+    s.returned.now _ _ c.in-Err.ensures c.refuse.ensures
 
 -- past the refusals
 fit : (c : In_default) → let s = c.args in ListsFit s.w s.sequences.now s.values.now s.pages.now s.blocks.now
 fit c =
     let s = c.args in
     admitted-fits (remove_range s.first s.last (leb 384 (length s.returned.now))) (state_of s.w (memory s.sequences.now s.values.now s.pages.now s.blocks.now)) (length s.returned.now) refl
-    c.admits-verdict.result c.admits-verdict.ensures c.in_default.in_default-own.keys2
+    c.in-Ok.ensures
 
 long : (c : In_default) → 384 ≤ length c.args.returned.now
 long c =
     let s = c.args in
     admitted-places (remove_range s.first s.last (leb 384 (length s.returned.now))) (state_of s.w (memory s.sequences.now s.values.now s.pages.now s.blocks.now)) (length s.returned.now) refl
-    c.admits-verdict.result c.admits-verdict.ensures c.in_default.in_default-own.keys2
+    c.in-Ok.ensures
 
 few : (c : In_default) → let s = c.args in range_count_of s.first s.last ≤ s.w.window_size
 few c =
     let s = c.args in
     count-taken (known_by s.w) s.first s.last
     (admitted-arguments (remove_range s.first s.last (leb 384 (length s.returned.now))) (state_of s.w (memory s.sequences.now s.values.now s.pages.now s.blocks.now)) (length s.returned.now) refl
-    c.admits-verdict.result c.admits-verdict.ensures c.in_default.in_default-own.keys2)
+    c.in-Ok.ensures)
 
 pub position-start-requires : goal.position-start-requires
 position-start-requires c = (fit (goal.at.position-start-requires c).In_default).within.size_high
@@ -68,8 +68,8 @@ keep_point-requires c =
     let f = fit at in
     (f.within.size_high, omega (arith, c.range_count-count.ensures, few at, size-le c.args.w.window_size f.within.size_high))
 
-pub returns : goal.returns
-returns c =
+pub returns-in-Ok : goal.returns-in-Ok
+returns-in-Ok c =
     let s = c.args in
     let t = c.remove_positions-step in
     let count = c.range_count-count in
@@ -79,7 +79,7 @@ returns c =
     (subst (λ (p : ℕ). Fills (λ (w : Window). range_step w p count.result) (state_of s.w (memory s.sequences.now s.values.now s.pages.now s.blocks.now)) s.returned.now left)
     c.position-start.ensures t.ensures) in
     filled-meets (remove_range s.first s.last (leb 384 (length s.returned.now))) (state_of s.w (memory s.sequences.now s.values.now s.pages.now s.blocks.now)) (length s.returned.now) refl
-    c.admits-verdict.result c.admits-verdict.ensures c.in_default.in_default-own.keys2 s.returned.now left _ refl refl
+    c.in-Ok.ensures s.returned.now left _ refl refl
     _ (range-does s.w (memory s.sequences.now s.values.now s.pages.now s.blocks.now) s.first s.last (leb 384 (length s.returned.now)))
     fills (λ a z. range-acts s.first s.last (leb 384 (length s.returned.now)) s.w (memory s.sequences.now s.values.now s.pages.now s.blocks.now) s.returned.now t.result _ _
     a z fills.taken count.result count.ensures c.keep_point.result c.keep_point.ensures)
