@@ -45,14 +45,14 @@ module _ (w : AdaptiveReceiverPacketWindow) (ss pages blocks : List ℕ) (s : �
   new-kept r a i = record {
     outcome = refl;
     new = λ t. i;
-    old = λ t. absurd (true≢false (sym (ap (λ (y : Answer). is_new (answer_of y)) a) ∙ t));
+    old = λ t. absurd (true≢false (sym (ap (λ (y : Result Answer Refusal). is_new (answer_of y)) a) ∙ t));
   }
 
   pub old-kept : is_new (answer_of x.answer.answer) ≡ false → KeepsInserted w ss pages blocks s x x
   old-kept e = record { outcome = refl; new = λ t. absurd (true≢false (sym t ∙ e)); old = λ t. refl }
 
 -- past the pattern `New` no value is new
-pub not_new : (a : Answer) → OneOf (0 ∷ 2 ∷ 3 ∷ 4 ∷ 5 ∷ 6 ∷ 7 ∷ 8 ∷ []) (tag_of enum.the_type a) → is_new (answer_of a) ≡ false
+pub not_new : (a : Result Answer Refusal) → OneOf (0 ∷ 2 ∷ 3 ∷ 4 ∷ 5 ∷ 6 ∷ 7 ∷ 8 ∷ []) (tag_of enum.the_type a) → is_new (answer_of a) ≡ false
 not_new Done t = refl
 not_new New t = absurd (miss (0 ∷ 2 ∷ 3 ∷ 4 ∷ 5 ∷ 6 ∷ 7 ∷ 8 ∷ []) 1 tt t)
 not_new (Replaced v) t = refl
@@ -64,7 +64,7 @@ not_new (Released values units) t = refl
 not_new (Refused why) t = refl
 
 -- and past `Found` none was found
-pub not_found : (a : Answer) → OneOf (0 ∷ 1 ∷ 2 ∷ 3 ∷ 5 ∷ 6 ∷ 7 ∷ 8 ∷ []) (tag_of enum.the_type a) → is_found (answer_of a) ≡ false
+pub not_found : (a : Result Answer Refusal) → OneOf (0 ∷ 1 ∷ 2 ∷ 3 ∷ 5 ∷ 6 ∷ 7 ∷ 8 ∷ []) (tag_of enum.the_type a) → is_found (answer_of a) ≡ false
 not_found Done t = refl
 not_found New t = refl
 not_found (Replaced v) t = refl
@@ -79,7 +79,7 @@ pub found-taken : (s : ℕ) (x : Step) (v : ℕ) (r : AdaptiveReceiverPacketWind
     → r ≡ set_point x.window (after_remove_of x.window.base x.window.point s true) → KeepsTaken s x (record { window = r; answer = x.answer })
 found-taken s x v r a e = record {
   outcome = refl;
-  window = e ∙ ap (λ (y : Answer). set_point x.window (after_remove_of x.window.base x.window.point s (is_found (answer_of y)))) (sym a);
+  window = e ∙ ap (λ (y : Result Answer Refusal). set_point x.window (after_remove_of x.window.base x.window.point s (is_found (answer_of y)))) (sym a);
 }
 
 pub none-taken : (s : ℕ) (x : Step) → is_found (answer_of x.answer.answer) ≡ false → KeepsTaken s x x
@@ -91,7 +91,7 @@ module _ (w : AdaptiveReceiverPacketWindow) (ss pages blocks : List ℕ) (x : St
   found-moves v next r a n i = record {
     outcome = refl;
     found = λ t. subst (λ (y : ℕ). MovesBase (with_sizes_of x.window w) ss pages blocks x.window y r) n i;
-    absent = λ t. absurd (true≢false (sym (ap (λ (y : Answer). is_found (answer_of y)) a) ∙ t));
+    absent = λ t. absurd (true≢false (sym (ap (λ (y : Result Answer Refusal). is_found (answer_of y)) a) ∙ t));
   }
 
   pub absent-moves : is_found (answer_of x.answer.answer) ≡ false → MovesFront w ss pages blocks x x

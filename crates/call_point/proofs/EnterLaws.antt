@@ -22,13 +22,13 @@ use Rattle.call_point.proofs.ReviveLaws.{InsertsRetired, unsound-gives, retired-
 use Rattle.call_point.proofs.InsertLaws.{retired-admitted, live-admitted}
 
 -- at most a page of values is handed back
-pub few-made : (h : AdaptiveReceiverPacketWindow) (n : ℕ) (m : Memory) (l : List ℕ) (g k : ℕ) (x : PageReleased) (m₁ : Memory) (l₁ : List ℕ)
+pub few-made : (h : AdaptiveReceiverPacketWindow) (n : ℕ) (m : Memory) (l : List ℕ) (g : ℕ) (k : Bool) (x : PageReleased) (m₁ : Memory) (l₁ : List ℕ)
     → MakesLive h n m l g k x m₁ l₁ → x.count ≤ 64
 few-made h n m l g k x m₁ l₁ t =
     elim (ℕ_discrete k 0) [ yes z ↦ (t.revived z).few | no z ↦ omega (arith, ap (λ (y : PageReleased). y.count) (t.live z).0) ]
 
 -- x is what making the page live gave, pages₁, blocks₁ and l₁ the words and the return list afterwards
-module _ (h : AdaptiveReceiverPacketWindow) (m : Memory) (fit : FitsIn h m) (s p k : ℕ)
+module _ (h : AdaptiveReceiverPacketWindow) (m : Memory) (fit : FitsIn h m) (s p : ℕ) (k : Bool)
     (e : p ≡ position h.window_size s) (reach : Reachable h m.blocks (p / 64) k) (v : ℕ) (listed : Bool) (l : List ℕ) (long : 384 ≤ length l)
     (x : PageReleased) (pages₁ blocks₁ l₁ : List ℕ) (t : MakesLive h h.n m l (p / 64) k x (memory m.sequences m.values pages₁ blocks₁) l₁)
     (r : Step) (m' : Memory) (i : Enters x (memory m.sequences m.values pages₁ blocks₁) (p / 64) h.n k s v r m') where
@@ -39,7 +39,7 @@ module _ (h : AdaptiveReceiverPacketWindow) (m : Memory) (fit : FitsIn h m) (s p
   m₁ = memory m.sequences m.values pages₁ blocks₁
 
   -- the page was retired
-  revives : k ≡ 0 → InsertsRetired h m (p / 64) h.n s v l r m' l₁
+  revives : k ≡ false → InsertsRetired h m (p / 64) h.n s v l r m' l₁
   revives z =
       let at = inside h m fit s p k e reach in
       bool x.sound
@@ -49,7 +49,7 @@ module _ (h : AdaptiveReceiverPacketWindow) (m : Memory) (fit : FitsIn h m) (s p
       unsound-gives h m g h.n s v l x pages₁ blocks₁ l₁ (t.revived z) at.in-sequences at.in-values no r m' i.count u.0 u.1)
 
   -- the page was live: nothing was done before the insert
-  enters-live : (k ≡ 0 → ⊥) → Admitted (insert s v listed) (state_of h m) l (left_of r m' l₁)
+  enters-live : k ≡ true → Admitted (insert s v listed) (state_of h m) l (left_of r m' l₁)
   enters-live n =
       let u = t.live n in
       let a = i.sound (ap (λ (y : PageReleased). y.sound) u.0) in

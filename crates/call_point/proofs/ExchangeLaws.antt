@@ -18,8 +18,6 @@ use Rattle.model.specs.Pages.{set_value}
 use Rattle.model.specs.Steps.{effect, window_does, exchange_step, with_page}
 use Rattle.model.specs.Sound.{Sound}
 use Rattle.page_base.specs.declared.PageWords.{PageWords}
-use Rattle.page_base.specs.declared.find.Read.{Read}
-use Rattle.page_base.specs.declared.find.Read.TheVariants as read
 use Rattle.page_base.specs.Page.{words_at, part_of, page}
 use Rattle.page_base.specs.Promises.{read_answer_of, exchanged, Exchanges}
 use Rattle.page_base.proofs.DecodeLaws.{page-at}
@@ -32,12 +30,12 @@ use Rattle.call_point.proofs.WrittenLaws.{FitsIn, same-page, lent-cells, same-ce
 use Rattle.call_point.proofs.ReachLaws.{is_refusal, below, inside, gone, there, absent-admitted}
 
 -- what a read answers is no refusal
-pub no-refusal : (x : Read) (k : ℕ) → read_answer_of x ≡ refused k → ⊥
-no-refusal read.Absent k e = true≢false (sym (ap is_refusal e))
-no-refusal (read.Value v) k e = true≢false (sym (ap is_refusal e))
+pub no-refusal : (x : Option ℕ) (k : ℕ) → read_answer_of x ≡ refused k → ⊥
+no-refusal None k e = true≢false (sym (ap is_refusal e))
+no-refusal (Some v) k e = true≢false (sym (ap is_refusal e))
 
 -- the part of page g lent, cs being its sequences
-pub exchange-lent : (g n : ℕ) (w : PageWords) (ss vs cs : List ℕ) (s v : ℕ) (x : Read) (ys : List ℕ) → 64 * g + 64 ≤ length vs → cs ≡ part_of g ss
+pub exchange-lent : (g n : ℕ) (w : PageWords) (ss vs cs : List ℕ) (s v : ℕ) (x : Option ℕ) (ys : List ℕ) → 64 * g + 64 ≤ length vs → cs ≡ part_of g ss
     → length ys ≡ length (take ((64 * g + 64) - 64 * g) (drop (64 * g) vs)) → Exchanges n w cs (take ((64 * g + 64) - 64 * g) (drop (64 * g) vs)) s v x ys
     → ExchangesIn g n w ss vs s v x (put_mid (64 * g) ((64 * g + 64) - 64 * g) vs ys)
 exchange-lent g n w ss vs cs s v x ys l e kept t = record {
@@ -46,7 +44,7 @@ exchange-lent g n w ss vs cs s v x ys l e kept t = record {
 }
 
 -- p is the sequence's position, k is what `reachable` says of its page
-module _ (h : AdaptiveReceiverPacketWindow) (m : Memory) (fit : FitsIn h m) (s p k : ℕ)
+module _ (h : AdaptiveReceiverPacketWindow) (m : Memory) (fit : FitsIn h m) (s p : ℕ) (k : Bool)
     (e : p ≡ position h.window_size s) (reach : Reachable h m.blocks (p / 64) k) (v : ℕ) where
   abbrev g : ℕ
   g = p / 64
@@ -55,15 +53,15 @@ module _ (h : AdaptiveReceiverPacketWindow) (m : Memory) (fit : FitsIn h m) (s p
   here = page (words_at m.pages g) (part_of g m.sequences) (part_of g m.values)
 
   -- ---- the page is retired
-  does-nothing : k ≡ 0 → Sound (decode h m) → effect (decode h m) absent [] ≡ window_does (decode h m) (exchange s v)
+  does-nothing : k ≡ false → Sound (decode h m) → effect (decode h m) absent [] ≡ window_does (decode h m) (exchange s v)
   unfolding window_does exchange_step decode
   does-nothing z ok = rw (gone h m fit s p k e reach z ok)
 
-  pub exchange-none : k ≡ 0 → (r : Step) → r ≡ replied h Absent → Admitted (exchange s v) (state_of h m) [] (left_of r m [])
+  pub exchange-none : k ≡ false → (r : Step) → r ≡ replied h (Ok Absent) → Admitted (exchange s v) (state_of h m) [] (left_of r m [])
   exchange-none z r q = absent-admitted h m fit s p k e reach (exchange s v) r q (does-nothing z)
 
   -- ---- the page is live: x is what it gave, vs the values afterwards
-  module _ (n : k ≡ 0 → ⊥) where
+  module _ (n : k ≡ true) where
     exchanged-page : Sound (decode h m) → (exchange_step (decode h m) s v).after ≡ with_page (decode h m) g (exchanged here s v)
     unfolding exchange_step exchanged decode
     exchanged-page ok =
@@ -74,7 +72,7 @@ module _ (h : AdaptiveReceiverPacketWindow) (m : Memory) (fit : FitsIn h m) (s p
         ∙ ap (λ (q : Page). with_page (decode h m) g (set_value q (cell_of q (s % 64)) v)) is))
         (λ t. rw (there h m fit s p k e reach n ok, t) (sym (ap (with_page (decode h m) g) (sym is) ∙ same-page (decode h m) g)))
 
-    module _ (x : Read) (vs : List ℕ) (t : ExchangesIn (p / 64) h.n (words_at m.pages (p / 64)) m.sequences m.values s v x vs) where
+    module _ (x : Option ℕ) (vs : List ℕ) (t : ExchangesIn (p / 64) h.n (words_at m.pages (p / 64)) m.sequences m.values s v x vs) where
       answers : Sound (decode h m) → read_answer_of x ≡ (exchange_step (decode h m) s v).answer
       unfolding exchange_step decode
       answers ok = t.does.answer (page-placed h m ok g (below h m fit s p k e reach)) ∙ ap (value_if s) (sym (there h m fit s p k e reach n ok))
@@ -86,12 +84,12 @@ module _ (h : AdaptiveReceiverPacketWindow) (m : Memory) (fit : FitsIn h m) (s p
           decode-cells h m g l i.in-sequences i.in-values m.sequences vs (same-cells g m.sequences i.in-sequences) t.values
           ∙ ap (with_page (decode h m) g) (t.does.after (page-placed h m ok g l)) ∙ sym (exchanged-page ok)
 
-      does : (a : Answer) → answer_of a ≡ read_answer_of x → Sound (decode h m)
+      does : (a : Result Answer Refusal) → answer_of a ≡ read_answer_of x → Sound (decode h m)
           → effect (decode h (memory m.sequences vs m.pages m.blocks)) (answer_of a) [] ≡ window_does (decode h m) (exchange s v)
       unfolding window_does exchange_step
       does a is ok = λ i. effect (alters ok i) ((is ∙ answers ok) i) []
 
-      exchange-replied : (a : Answer) → answer_of a ≡ read_answer_of x
+      exchange-replied : (a : Result Answer Refusal) → answer_of a ≡ read_answer_of x
           → Admitted (exchange s v) (state_of h m) [] (left_of (replied h a) (memory m.sequences vs m.pages m.blocks) [])
       exchange-replied a is =
           let i = inside h m fit s p k e reach in
@@ -100,8 +98,8 @@ module _ (h : AdaptiveReceiverPacketWindow) (m : Memory) (fit : FitsIn h m) (s p
           (record { sequences = o.sequences; values = t.values; words = o.words }) (exchange s v) (replied h a) refl
           (λ q. no-refusal x 4 (sym is ∙ q)) (does a is)
 
-    pub exchange-admitted : (w : PageWords) → w ≡ words_at m.pages (p / 64) → (x : Read) (vs : List ℕ) → ExchangesIn (p / 64) h.n w m.sequences m.values s v x vs
-        → (a : Answer) → answer_of a ≡ read_answer_of x → (r : Step) → r ≡ replied h a
+    pub exchange-admitted : (w : PageWords) → w ≡ words_at m.pages (p / 64) → (x : Option ℕ) (vs : List ℕ) → ExchangesIn (p / 64) h.n w m.sequences m.values s v x vs
+        → (a : Result Answer Refusal) → answer_of a ≡ read_answer_of x → (r : Step) → r ≡ replied h a
         → Admitted (exchange s v) (state_of h m) [] (left_of r (memory m.sequences vs m.pages m.blocks) [])
     exchange-admitted w ew x vs t a is r q =
         subst (λ (y : Step). Admitted (exchange s v) (state_of h m) [] (left_of y (memory m.sequences vs m.pages m.blocks) [])) (sym q)

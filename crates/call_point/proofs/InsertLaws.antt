@@ -24,7 +24,7 @@ use Rattle.call_point.proofs.ReachLaws.{below}
 use Rattle.call_point.proofs.ReviveLaws.{InsertsRetired}
 
 -- p is the sequence's position, k is what `reachable` says of its page
-module _ (h : AdaptiveReceiverPacketWindow) (m : Memory) (fit : FitsIn h m) (s p k : ℕ)
+module _ (h : AdaptiveReceiverPacketWindow) (m : Memory) (fit : FitsIn h m) (s p : ℕ) (k : Bool)
     (e : p ≡ position h.window_size s) (reach : Reachable h m.blocks (p / 64) k) (v : ℕ) (listed : Bool) (l : List ℕ) (long : 384 ≤ length l) where
   abbrev g : ℕ
   g = p / 64
@@ -46,7 +46,7 @@ module _ (h : AdaptiveReceiverPacketWindow) (m : Memory) (fit : FitsIn h m) (s p
       (insert_page h.n ((revive (decode h m) (q / 64)).after.pages (q / 64)) s v).answer (revive (decode h m) (q / 64)).out) (sym e)
 
   -- ---- the page is retired
-  module _ (r : Step) (m' : Memory) (l' : List ℕ) (z : k ≡ 0) (t : InsertsRetired h m (p / 64) h.n s v l r m' l') where
+  module _ (r : Step) (m' : Memory) (l' : List ℕ) (z : k ≡ false) (t : InsertsRetired h m (p / 64) h.n s v l r m' l') where
     retired : Sound (decode h m) → is_retired (decode h m) g ≡ true
     retired ok = unreachable h m ok g under k reach z
 
@@ -64,7 +64,7 @@ module _ (h : AdaptiveReceiverPacketWindow) (m : Memory) (fit : FitsIn h m) (s p
     retired-admitted = fills-admitted (λ (w : Window). window_does w (insert s v listed)) (insert s v listed) (state_of h m) l (left_of r m' l') long refl retired-fills
 
   -- ---- the page is live
-  module _ (q : Put) (m' : Memory) (n : k ≡ 0 → ⊥) (t : InsertsLive h m (p / 64) h.n s v q m') where
+  module _ (q : Put) (m' : Memory) (n : k ≡ true) (t : InsertsLive h m (p / 64) h.n s v q m') where
     live : Sound (decode h m) → revive (decode h m) g ≡ returned_by (decode h m) []
     unfolding revive
     live ok = rw (is-reachable h m ok g under k reach n)

@@ -13,8 +13,6 @@ use Rattle.model.specs.Calls.{new}
 use Rattle.model.specs.Steps.{is_new}
 use Rattle.page_base.specs.declared.Left.{Left}
 use Rattle.page_base.specs.declared.PageWords.{PageWords}
-use Rattle.page_base.specs.declared.find.Read.{Read}
-use Rattle.page_base.specs.declared.find.Read.TheVariants.{Absent, Value}
 use Rattle.page_base.specs.Promises.{read_answer_of}
 use Rattle.page_insert.specs.declared.Inserted.{Inserted}
 use Rattle.page_insert.specs.Insert as page
@@ -27,7 +25,7 @@ use Rattle.page_release.specs.Promises.{Within}
 use Rattle.call_base.specs.Answers.{answer_of, replied}
 use Rattle.call_point.specs.Promises.{Untouched, Keeps, KeepsRemoved}
 
-not-both : (x : Read) (v : ℕ) → x ≡ Value v → x ≡ Absent → ⊥
+not-both : (x : Option ℕ) (v : ℕ) → x ≡ Some v → x ≡ None → ⊥
 not-both x v e f = let z : ◌≡◌ {A = ℕ} 0 1 = cc in omega arith
 
 module _ (h : AdaptiveReceiverPacketWindow) (pages blocks : List ℕ) (g : ℕ) where
@@ -63,7 +61,7 @@ module _ (h : AdaptiveReceiverPacketWindow) (pages blocks : List ℕ) (g : ℕ) 
     }
 
     -- any other answer: nothing was written
-    pub old-keeps : (a : Answer) → answer_of a ≡ page.answer_of x.answer → is_new (answer_of a) ≡ false
+    pub old-keeps : (a : Result Answer Refusal) → answer_of a ≡ page.answer_of x.answer → is_new (answer_of a) ≡ false
         → Keeps h pages blocks g x (record { window = h; answer = a }) pages blocks
     old-keeps a e f = record {
       within = same-within;
@@ -74,9 +72,9 @@ module _ (h : AdaptiveReceiverPacketWindow) (pages blocks : List ℕ) (g : ℕ) 
 
   -- ---- a removal
 
-  module _ (w : PageWords) (left : Left) (x : Read) (r : Step) where
+  module _ (w : PageWords) (left : Left) (x : Option ℕ) (r : Step) where
     -- it took value v out: the words of the page and of its block were written
-    pub found-keeps : (v : ℕ) (win : AdaptiveReceiverPacketWindow) (pages' blocks' : List ℕ) → x ≡ Value v → r ≡ replied win (answer.Found v)
+    pub found-keeps : (v : ℕ) (win : AdaptiveReceiverPacketWindow) (pages' blocks' : List ℕ) → x ≡ Some v → r ≡ replied win (Ok (answer.Found v))
         → Stores (updates.Removed h (block_words_at blocks (g / 64)) g left Single 1) pages blocks g w win pages' blocks'
         → KeepsRemoved h pages blocks g w left x r pages' blocks'
     found-keeps v win pages' blocks' e q t = record {
@@ -89,7 +87,7 @@ module _ (h : AdaptiveReceiverPacketWindow) (pages blocks : List ℕ) (g : ℕ) 
     }
 
     -- it found none: nothing was written
-    pub absent-keeps : x ≡ Absent → r ≡ replied h answer.Absent → KeepsRemoved h pages blocks g w left x r pages blocks
+    pub absent-keeps : x ≡ None → r ≡ replied h (Ok answer.Absent) → KeepsRemoved h pages blocks g w left x r pages blocks
     absent-keeps e q = record {
       within = same-within;
       answer = ap (λ (y : Step). answer_of y.answer.answer) q ∙ sym (ap read_answer_of e);

@@ -63,7 +63,7 @@ in-lists h a b c d s p fit e =
 
 -- ---- k is what `reachable` says of the page
 
-module _ (h : AdaptiveReceiverPacketWindow) (m : Memory) (fit : FitsIn h m) (s p k : ℕ)
+module _ (h : AdaptiveReceiverPacketWindow) (m : Memory) (fit : FitsIn h m) (s p : ℕ) (k : Bool)
     (e : p ≡ position h.window_size s) (reach : Reachable h m.blocks (p / 64) k) where
   abbrev here : Page
   here = page (words_at m.pages (p / 64)) (part_of (p / 64) m.sequences) (part_of (p / 64) m.values)
@@ -78,18 +78,18 @@ module _ (h : AdaptiveReceiverPacketWindow) (m : Memory) (fit : FitsIn h m) (s p
   slot = ap (λ (x : ℕ). x % 64) e ∙ position-slot h.window_size s
 
   -- nothing is found on a retired page
-  pub gone : k ≡ 0 → Sound (decode h m) → live_at (decode h m) (position h.window_size s) ≡ Option.none
+  pub gone : k ≡ false → Sound (decode h m) → live_at (decode h m) (position h.window_size s) ≡ Option.none
   gone z ok = ap (live_at (decode h m)) (sym e) ∙ live-none h m p (unreachable h m ok (p / 64) below k reach z)
 
   -- on a live one it is what stands there
-  pub there : (k ≡ 0 → ⊥) → Sound (decode h m)
+  pub there : k ≡ true → Sound (decode h m)
       → live_at (decode h m) (position h.window_size s) ≡ stands_at (page (words_at m.pages (p / 64)) (part_of (p / 64) m.sequences) (part_of (p / 64) m.values)) (s % 64)
   there n ok = ap (live_at (decode h m)) (sym e) ∙ live-is h m p below (is-reachable h m ok (p / 64) below k reach n) ∙ ap (stands_at here) slot
 
   -- a call that finds nothing
-  pub absent-admitted : (c : Call) (r : Step) → r ≡ replied h Absent → (Sound (decode h m) → effect (decode h m) absent [] ≡ window_does (decode h m) c)
+  pub absent-admitted : (c : Call) (r : Step) → r ≡ replied h (Ok Absent) → (Sound (decode h m) → effect (decode h m) absent [] ≡ window_does (decode h m) c)
       → Admitted c (state_of h m) [] (left_of r m [])
   absent-admitted c r q does =
       subst (λ (y : Step). Admitted c (state_of h m) [] (left_of y m [])) (sym q)
-      (page-admitted h m m fit (p / 64) below (same-only (p / 64) m inside.in-sequences inside.in-values) c (replied h Absent) refl
+      (page-admitted h m m fit (p / 64) below (same-only (p / 64) m inside.in-sequences inside.in-values) c (replied h (Ok Absent)) refl
       (λ a. true≢false (sym (ap is_refusal a))) does)

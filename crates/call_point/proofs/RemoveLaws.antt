@@ -21,8 +21,6 @@ use Rattle.model.specs.Pages.{take_cell_of, demotes, after_removal, holds_value}
 use Rattle.model.specs.Steps.{effect, window_does, remove_step, with_page, count_demotion_of, note_nonempty, put_page, sub_live_of}
 use Rattle.model.specs.Sound.{Sound}
 use Rattle.page_base.specs.declared.PageWords.{PageWords}
-use Rattle.page_base.specs.declared.find.Read.{Read}
-use Rattle.page_base.specs.declared.find.Read.TheVariants as read
 use Rattle.page_base.specs.Page.{words_at, part_of, page}
 use Rattle.page_base.specs.Promises.{read_answer_of, read_of}
 use Rattle.page_base.proofs.DecodeLaws.{page-at}
@@ -78,7 +76,7 @@ is_found_lem s v none a = absurd (true≢false (sym (ap is_found a)))
 is_found_lem s v (some q) a = bool (eqb q.sequence s) (λ t. t) (λ t. absurd (true≢false (sym (rw t at (ap is_found a)))))
 
 -- p is the sequence's position, k is what `reachable` says of its page
-module _ (h : AdaptiveReceiverPacketWindow) (m : Memory) (fit : FitsIn h m) (s p k : ℕ)
+module _ (h : AdaptiveReceiverPacketWindow) (m : Memory) (fit : FitsIn h m) (s p : ℕ) (k : Bool)
     (e : p ≡ position h.window_size s) (reach : Reachable h m.blocks (p / 64) k) where
   abbrev g : ℕ
   g = p / 64
@@ -93,15 +91,15 @@ module _ (h : AdaptiveReceiverPacketWindow) (m : Memory) (fit : FitsIn h m) (s p
   under = below h m fit s p k e reach
 
   -- ---- the page is retired
-  does-nothing : k ≡ 0 → Sound (decode h m) → effect (decode h m) absent [] ≡ window_does (decode h m) (remove s)
+  does-nothing : k ≡ false → Sound (decode h m) → effect (decode h m) absent [] ≡ window_does (decode h m) (remove s)
   unfolding window_does remove_step decode
   does-nothing z ok = rw (gone h m fit s p k e reach z ok)
 
-  pub remove-none : k ≡ 0 → (r : Step) → r ≡ replied h Absent → Admitted (remove s) (state_of h m) [] (left_of r m [])
+  pub remove-none : k ≡ false → (r : Step) → r ≡ replied h (Ok Absent) → Admitted (remove s) (state_of h m) [] (left_of r m [])
   remove-none z r q = absent-admitted h m fit s p k e reach (remove s) r q (does-nothing z)
 
   -- ---- the page is live
-  module _ (n : k ≡ 0 → ⊥) where
+  module _ (n : k ≡ true) where
     -- what the step does, by what the page gives
     step-found : Sound (decode h m) → finds s (stands_at here (s % 64)) ≡ true
         → (remove_step (decode h m) s).after ≡ after_remove_of (with_page (decode h m) g (remove_page d here s).page) g Single (remove_page d here s).left.demoted 1
@@ -135,7 +133,7 @@ module _ (h : AdaptiveReceiverPacketWindow) (m : Memory) (fit : FitsIn h m) (s p
       answered ok = ap (λ (q : RemovedPage). q.answer) (is_removed ok) ∙ remove-answer here s d
 
       -- the sequence is absent
-      left-absent : x.answer ≡ read.Absent → Sound (decode h m) → decode r.window (memory ss vs pages blocks) ≡ (remove_step (decode h m) s).after
+      left-absent : x.answer ≡ None → Sound (decode h m) → decode r.window (memory ss vs pages blocks) ≡ (remove_step (decode h m) s).after
       left-absent a ok =
           let i = inside h m fit s p k e reach in
           let u = kept.absent a in
@@ -147,7 +145,7 @@ module _ (h : AdaptiveReceiverPacketWindow) (m : Memory) (fit : FitsIn h m) (s p
           ∙ ap (with_page (decode h m) g) (sym (page-at h m g under)) ∙ same-page (decode h m) g ∙ sym (step-absent ok missing)
 
       -- the sequence had value v
-      module _ (v : ℕ) (a : x.answer ≡ read.Value v) where
+      module _ (v : ℕ) (a : x.answer ≡ Some v) where
         -- the page holds a value just if one was left
         told : Sound (decode h m) → holds_value (after.pages g) ≡ any_left x.left
         told ok =
@@ -172,8 +170,8 @@ module _ (h : AdaptiveReceiverPacketWindow) (m : Memory) (fit : FitsIn h m) (s p
             ∙ sym (step-found ok (is_found_lem s v (stands_at here (s % 64)) (sym (answered ok) ∙ ap read_answer_of a)))
 
       left : (y : Read) → x.answer ≡ y → Sound (decode h m) → decode r.window (memory ss vs pages blocks) ≡ (remove_step (decode h m) s).after
-      left read.Absent a ok = left-absent a ok
-      left (read.Value v) a ok = left-found v a ok
+      left None a ok = left-absent a ok
+      left (Some v) a ok = left-found v a ok
 
       does : Sound (decode h m) → effect (decode r.window (memory ss vs pages blocks)) (answer_of r.answer.answer) [] ≡ window_does (decode h m) (remove s)
       unfolding window_does remove_step

@@ -58,28 +58,16 @@ empty-new n s v p ok l e =
     (insert-leaves n p s v ok l).answer
     ∙ ap (put_answer_of s) (stands-none n p ok (s % 64) (ap (λ (w : ℕ). bit_at w (s % 64)) e ∙ bit-none (s % 64)))
 
--- whether an answer is a refusal
-abbrev is_refused : Answer → Bool
-is_refused Done = false
-is_refused New = false
-is_refused (Replaced v) = false
-is_refused Absent = false
-is_refused (Found n) = false
-is_refused (Pair s v next reads) = false
-is_refused (Ended reads) = false
-is_refused (Released values units) = false
-is_refused (Refused why) = true
-
-refuses : (a : Answer) (k : ℕ) → answer_of a ≡ model.refused k → is_refused a ≡ true
-refuses Done k e = absurd (true≢false (sym (ap is_refusal e)))
-refuses New k e = absurd (true≢false (sym (ap is_refusal e)))
-refuses (Replaced v) k e = absurd (true≢false (sym (ap is_refusal e)))
-refuses Absent k e = absurd (true≢false (sym (ap is_refusal e)))
-refuses (Found n) k e = absurd (true≢false (sym (ap is_refusal e)))
-refuses (Pair s v next reads) k e = absurd (true≢false (sym (ap is_refusal e)))
-refuses (Ended reads) k e = absurd (true≢false (sym (ap is_refusal e)))
-refuses (Released values units) k e = absurd (true≢false (sym (ap is_refusal e)))
-refuses (Refused why) k e = refl
+-- an answer that is not a refusal
+gives-none : (a : Answer) (k : ℕ) → given_of a ≡ model.refused k → ⊥
+gives-none Done k e = true≢false (sym (ap is_refusal e))
+gives-none New k e = true≢false (sym (ap is_refusal e))
+gives-none (Replaced v) k e = true≢false (sym (ap is_refusal e))
+gives-none Absent k e = true≢false (sym (ap is_refusal e))
+gives-none (Found n) k e = true≢false (sym (ap is_refusal e))
+gives-none (Pair s v next reads) k e = true≢false (sym (ap is_refusal e))
+gives-none (Ended reads) k e = true≢false (sym (ap is_refusal e))
+gives-none (Released values units) k e = true≢false (sym (ap is_refusal e))
 
 -- ---- what an insert into a retired page comes to
 
@@ -113,7 +101,7 @@ module _ (h : AdaptiveReceiverPacketWindow) (m : Memory) (g n s v : ℕ) (l : Li
   }
 
   -- the page's words do not fit each other: 7, with what was handed back
-  pub unsound-gives : x.sound ≡ false → (r : Step) (m' : Memory) → r.answer.count ≡ x.count → r.answer.answer ≡ Refused Unsound
+  pub unsound-gives : x.sound ≡ false → (r : Step) (m' : Memory) → r.answer.count ≡ x.count → r.answer.answer ≡ Err Unsound
       → state_of r.window m' ≡ state_of x.window (memory m.sequences m.values pages₁ blocks₁) → InsertsRetired h m g n s v l r m' l₁
   unsound-gives e r m' many a u =
       let never : Placing h m g n → ⊥ = λ q. true≢false (sym (t.sound (inside q)) ∙ e) in
@@ -128,7 +116,7 @@ module _ (h : AdaptiveReceiverPacketWindow) (m : Memory) (g n s v : ℕ) (l : Li
         out = λ q. absurd (never q);
       }
 
-  module _ (r : Step) (m' : Memory) (many : r.answer.count ≡ x.count) (given : Answer)
+  module _ (r : Step) (m' : Memory) (many : r.answer.count ≡ x.count) (given : Result Answer Refusal)
       (i : InsertsLive x.window (memory m.sequences m.values pages₁ blocks₁) g n s v (record { window = r.window; answer = given }) m')
       (b : RevivedAnswer given r.answer.answer) (small : n < 64) where
     module _ (q : Placing h m g n) (retired : is_retired (decode h m) g ≡ true) where
@@ -189,23 +177,11 @@ module _ (h : AdaptiveReceiverPacketWindow) (m : Memory) (g n s v : ℕ) (l : Li
 
 -- ---- the answer on a revived page
 
-pub refused-revived : (a : Answer) (why : Refusal) → a ≡ Refused why → RevivedAnswer a (Refused Unsound)
+pub refused-revived : (a : Result Answer Refusal) (why : Refusal) → a ≡ Err why → RevivedAnswer a (Err Unsound)
 refused-revived a why e = record {
   taken = λ q. omega (arith, ap number_of q);
-  same = λ q. absurd (true≢false (sym q ∙ ap (λ (x : Answer). is_new (answer_of x)) e));
+  same = λ q. absurd (true≢false (sym q ∙ ap (λ (x : Result Answer Refusal). is_new (answer_of x)) e));
 }
 
--- past the pattern `Refused` the answer is another
-pub not-refused : (a : Answer) → OneOf (0 ∷ 1 ∷ 2 ∷ 3 ∷ 4 ∷ 5 ∷ 6 ∷ 7 ∷ []) (tag_of enum.the_type a) → is_refused a ≡ false
-not-refused Done t = refl
-not-refused New t = refl
-not-refused (Replaced v) t = refl
-not-refused Absent t = refl
-not-refused (Found n) t = refl
-not-refused (Pair s v next reads) t = refl
-not-refused (Ended reads) t = refl
-not-refused (Released values units) t = refl
-not-refused (Refused why) t = absurd (miss (0 ∷ 1 ∷ 2 ∷ 3 ∷ 4 ∷ 5 ∷ 6 ∷ 7 ∷ []) 8 tt t)
-
-pub other-revived : (a : Answer) → is_refused a ≡ false → RevivedAnswer a a
-other-revived a e = record { taken = λ q. true≢false (sym (refuses a 4 q) ∙ e); same = λ q. refl }
+pub given-revived : (a : Answer) → RevivedAnswer (Ok a) (Ok a)
+given-revived a = record { taken = λ q. gives-none a 4 q; same = λ q. refl }

@@ -19,7 +19,7 @@ use Rattle.call_base.proofs.FitLaws.{sequence-bounds}
 use Rattle.call_base.proofs.ReachLaws.{unreachable, is-reachable}
 
 -- p is the sequence's position, r is what `reachable` says of its page
-module _ (h : AdaptiveReceiverPacketWindow) (ss vs pages blocks : List ℕ) (s p r : ℕ)
+module _ (h : AdaptiveReceiverPacketWindow) (ss vs pages blocks : List ℕ) (s p : ℕ) (r : Bool)
     (e : p ≡ position h.window_size s) (reach : Reachable h blocks (p / 64) r) where
   abbrev m : Memory
   m = memory ss vs pages blocks
@@ -30,12 +30,12 @@ module _ (h : AdaptiveReceiverPacketWindow) (ss vs pages blocks : List ℕ) (s p
   slot : p % 64 ≡ s % 64
   slot = ap (λ (x : ℕ). x % 64) e ∙ position-slot h.window_size s
 
-  pub get_absent : r ≡ 0 → Sound (decode h (memory ss vs pages blocks)) → absent ≡ window_answer (decode h (memory ss vs pages blocks)) (get s)
+  pub get_absent : r ≡ false → Sound (decode h (memory ss vs pages blocks)) → absent ≡ window_answer (decode h (memory ss vs pages blocks)) (get s)
   unfolding decode
   get_absent z ok = ap (λ (o : Option Pair). value_if s o) (sym (live-none h m p (unreachable h m ok (p / 64) below r reach z))) ∙ ap (λ (q : ℕ). value_if s (live_at (decode h m) q)) e
 
   -- x is what the page gave, read by its words and its parts of the lists
-  pub get-read : (r ≡ 0 → ⊥) → (w : PageWords) (cs ds : List ℕ) (x : Read) → w ≡ words_at pages (p / 64) → cs ≡ part_of (p / 64) ss → ds ≡ part_of (p / 64) vs
+  pub get-read : r ≡ true → (w : PageWords) (cs ds : List ℕ) (x : Option ℕ) → w ≡ words_at pages (p / 64) → cs ≡ part_of (p / 64) ss → ds ≡ part_of (p / 64) vs
       → Reads h.n w cs ds s x → Sound (decode h (memory ss vs pages blocks)) → read_answer_of x ≡ window_answer (decode h (memory ss vs pages blocks)) (get s)
   unfolding decode
   get-read n w cs ds x ew ec ed t ok =
