@@ -64,6 +64,7 @@ pub fn sequence_at(base: u32, d: u32) -> u32
 }
 
 // How far a sequence is from a base: 31 bits.
+#[tactic(auto, unfolding(model::specs::Sequences::distance))]
 pub fn distance(base: u32, sequence: u32) -> u32
     ensures { result ≡ distance_of base sequence }
 {
@@ -71,6 +72,7 @@ pub fn distance(base: u32, sequence: u32) -> u32
 }
 
 // How many positions a range has: the distance from first to last, and one.
+#[tactic(auto, unfolding(model::specs::Sequences::distance, model::specs::Table::range_count_of))]
 pub fn range_count(first: u32, last: u32) -> u32
     ensures { result ≡ range_count_of first last }
 {
