@@ -21,7 +21,7 @@ fn more_held(w: AdaptiveReceiverPacketWindow, count: u32) -> AdaptiveReceiverPac
     ensures { result ≡ set_held w ((w.retired_held + count) % 2 ^ 32) }
 {
     let mut window = w;
-    window.retired_held = std::num::wrapping_add_u32(w.retired_held, count);
+    window.retired_held = w.retired_held.wrapping_add(count);
     window
 }
 
@@ -59,8 +59,7 @@ pub fn retire_pages_in_block(
     let newly = newly_retired(split, mask);
     let removed = values_in(pages, block, newly) as u32;
     let fewer = sub_live(window, mark_pages(split, newly), removed);
-    let kept = fewer.block;
-    put_block_words(blocks, block, kept);
+    put_block_words(blocks, block, fewer.block);
     more_held(fewer.window, removed)
 }
 
@@ -80,10 +79,9 @@ fn retire_block(w: AdaptiveReceiverPacketWindow, b: BlockWords, block: usize) ->
     let mut marked = w;
     marked.retired_blocks = words::set(w.retired_blocks, block);
     let fewer = sub_live(marked, b, live);
-    let kept = fewer.block;
     Change {
         window: more_held(fewer.window, live),
-        block: kept,
+        block: fewer.block,
     }
 }
 
@@ -101,8 +99,7 @@ pub fn retire_blocks(
     while left != 0 {
         let block = words::lowest(left, 0);
         let change = retire_block(window, block_words(blocks, block), block);
-        let kept = change.block;
-        put_block_words(blocks, block, kept);
+        put_block_words(blocks, block, change.block);
         window = change.window;
         left = words::clear(left, block);
     }
@@ -114,10 +111,8 @@ fn clear_live(blocks: &mut [u64], count: usize)
     requires { (count ≤ 16) × (words_per_block * count ≤ length blocks.old) }
     ensures { blocks.new ≡ without_live count blocks.old }
 {
-    let mut block: usize = 0;
-    while block < count {
+    for block in 0..count {
         blocks[BLOCK_WORDS * block + 2] = 0;
-        block += 1;
     }
 }
 
