@@ -1,25 +1,22 @@
-use Prim.Native.Nat.{◌<◌}
-use native.Mathlib.Omega.{arith}
-use lib.Bits.{and_le_r}
+use Rattle.std.proofs.Common.{ℕ, ◌≡◌, ◌^◌, ◌<◌, arith, rules}
+use lib.Bits.{bit_and, and_le_r}
+use Rattle.words.specs.Word.{lowest}
 use Rattle.words.proofs.LowestLaws.{lowest-some}
 use Rattle.page_remove.proofs.DrainLoopLaws.{draining-begins, draining-turn, draining-ends, draining-empty, draining-unsound}
-use borrow.Author.Rules.{rules}
 use Rattle.page_remove.proofs.drain.drain_searched.Goals as goal
+
+-- the lowest position selected is one of the page
+inside : (occupied slots q : ℕ) → slots < 2 ^ 64 → (bit_and occupied slots ≡ 0 → ⊥) → q ≡ lowest (bit_and occupied slots) 0 → q < 64
+inside occupied slots q l some e = rw e (lowest-some _ (omega (arith, and_le_r occupied slots)) some)
 
 pub loop-count-init : goal.loop-count-init
 loop-count-init c = draining-begins _ _ _ _ _ _ _ _
 
 pub slot_at-requires : goal.slot_at-requires
-slot_at-requires c =
-    let inside : c.lowest-slot.result < 64 = let a = c.args in
-    rw c.lowest-slot.ensures (lowest-some _ (omega (arith, and_le_r c.loop-count.left.occupied a.slots)) c.if-selected-eq0.false) in
-    (search rules, search rules, inside)
+slot_at-requires c = (search rules, search rules, inside _ _ _ (omega arith) c.if-selected-eq0.false c.lowest-slot.ensures)
 
 pub take_cell-left-requires : goal.take_cell-left-requires
-take_cell-left-requires c =
-    let inside : c.lowest-slot.result < 64 = let a = c.args in
-    rw c.lowest-slot.ensures (lowest-some _ (omega (arith, and_le_r c.loop-count.left.occupied a.slots)) c.if-selected-eq0.false) in
-    (inside, search rules)
+take_cell-left-requires c = (inside _ _ _ (omega arith) c.if-selected-eq0.false c.lowest-slot.ensures, search rules)
 
 pub loop-count-preserved : goal.loop-count-preserved
 loop-count-preserved c =
