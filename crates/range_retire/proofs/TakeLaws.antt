@@ -3,7 +3,7 @@
 use mathlib.Core.Path.{◌≡◌, refl, sym, ap, ◌∙◌, subst}
 use mathlib.Core.Bool.{Bool, true, false, cond, not, ◌||◌}
 use mathlib.Core.List.{List, []}
-use Prim.Native.Nat.{ℕ, ◌+◌, ◌*◌, ◌/◌, ◌%◌, ◌≤◌, ◌<◌}
+use Prim.Native.Nat.{ℕ, ◌+◌, ◌*◌, ◌/◌, ◌≤◌, ◌<◌}
 use native.Mathlib.Omega.{arith}
 use lib.Dec.{eqb}
 use lib.ListN.{length, drop, length-drop}
@@ -11,7 +11,6 @@ use lib.Seq.{length-take-le}
 use borrow.Author.Tests.{eq-eqb, ne_eqb}
 use Rattle.words.proofs.CaseLaws.{bool}
 use Rattle.words.specs.Word.{is_set}
-use Rattle.words.proofs.BitLaws.{bit-lt}
 use Rattle.window.specs.declared.AdaptiveReceiverPacketWindow.{AdaptiveReceiverPacketWindow}
 use Rattle.window.specs.declared.Cause.TheVariants.{Range}
 use Rattle.window.specs.Memory.{Memory, memory, capacity, page_count_of, block_count_of, words_per_page, words_per_block}
@@ -32,7 +31,6 @@ use Rattle.page_remove.specs.Remove.{SettledPage, settled_of, settle_page_of}
 use Rattle.page_remove.specs.Promises.{Drains, stretch}
 use Rattle.page_remove.proofs.RemoveLaws.{settled-told}
 use Rattle.page_remove.proofs.DrainLaws.{drain-placed}
-use Rattle.block_marks.specs.declared.BlockWords.{BlockWords}
 use Rattle.block_marks.specs.declared.Change.{Change}
 use Rattle.block_marks.specs.Blocks.{block_words_at, block_of, changed}
 use Rattle.block_marks.proofs.BlockLaws.{block_at}
@@ -209,9 +207,9 @@ module _ (h : AdaptiveReceiverPacketWindow) (ss vs pages blocks l : List ℕ) (g
   occupied-is : (w.pages g).occupied ≡ (words_at pages g).occupied
   occupied-is = ap (λ (x : Page). x.occupied) (page-at h (memory ss vs pages blocks) g below)
 
-  retired-is : (q : ℕ) → q ≡ page_retired_of h.retired_blocks (block_words_at blocks (g / 64)) g → eqb q 1 ≡ is_retired w g
+  retired-is : (q : Bool) → q ≡ eqb (page_retired_of h.retired_blocks (block_words_at blocks (g / 64)) g) 1 → q ≡ is_retired w g
   retired-is q e =
-      ap (λ (y : ℕ). eqb y 1) e
+      e
       ∙ page-retired-is w h.retired_blocks (block_words_at blocks (g / 64)) g (ap (λ (y : AdaptiveReceiverPacketWindow). y.retired_blocks) (header_at h (memory ss vs pages blocks)))
       (block_at h (memory ss vs pages blocks) (g / 64) (omega arith))
 
@@ -222,27 +220,22 @@ module _ (h : AdaptiveReceiverPacketWindow) (ss vs pages blocks l : List ℕ) (g
     pub skips-empty : x.occupied ≡ 0 → Performs (λ (v : Window). remove_slots_of v g (is_set slots)) 64 h (memory ss vs pages blocks) at l (record { window = h; count = 0; sound = true }) (memory ss vs pages blocks) l
     skips-empty e = skipped (bool (is_retired w g) (λ t. rw t) (λ t. rw (t, own-words, e)))
 
-    pub removes-slots : (q : ℕ) → q ≡ page_retired_of h.retired_blocks (block_words_at blocks (g / 64)) g → (q ≡ 1 → ⊥) → (x.occupied ≡ 0 → ⊥) → (r : Retired) (m' : Memory) (l' : List ℕ)
+    pub removes-slots : (q : Bool) → q ≡ eqb (page_retired_of h.retired_blocks (block_words_at blocks (g / 64)) g) 1 → q ≡ false → (x.occupied ≡ 0 → ⊥) → (r : Retired) (m' : Memory) (l' : List ℕ)
         → Performs (λ (v : Window). take_slots_of v g (is_set slots)) 64 h (memory ss vs pages blocks) at l r m' l'
         → Performs (λ (v : Window). remove_slots_of v g (is_set slots)) 64 h (memory ss vs pages blocks) at l r m' l'
     removes-slots q e o some r m' l' t =
-        let live : is_retired w g ≡ false = sym (retired-is q e) ∙ ne_eqb q 1 o in
+        let live : is_retired w g ≡ false = sym (retired-is q e) ∙ o in
         let here : skips ≡ false = rw (live, ne_eqb (w.pages g).occupied 0 (λ z. some (sym own-words ∙ z))) in
         performs-as 64 h (memory ss vs pages blocks) at l 64 (λ (v : Window). take_slots_of v g (is_set slots)) (λ (v : Window). remove_slots_of v g (is_set slots)) r m' l' (omega arith)
         (sym (slots-are ∙ ap (λ (y : Bool). cond y (returned_by w []) (take_slots_of w g (is_set slots))) here)) t
 
 -- a page that is retired is left as it is
 pub retired-skipped : (h : AdaptiveReceiverPacketWindow) (m : Memory) (g slots : ℕ) → g < page_count_of h.window_size
-    → page_retired_of h.retired_blocks (block_words_at m.blocks (g / 64)) g ≡ 1 → remove_slots_of (decode h m) g (is_set slots) ≡ returned_by (decode h m) []
+    → eqb (page_retired_of h.retired_blocks (block_words_at m.blocks (g / 64)) g) 1 ≡ true → remove_slots_of (decode h m) g (is_set slots) ≡ returned_by (decode h m) []
 retired-skipped h m g slots below o =
-    let marked : is_retired (decode h m) g ≡ true = sym (retired-is h m.sequences m.values m.pages m.blocks [] g slots 0 below _ refl) ∙ eq-eqb _ 1 o in
+    let marked : is_retired (decode h m) g ≡ true = sym (retired-is h m.sequences m.values m.pages m.blocks [] g slots 0 below _ refl) ∙ o in
     slots-are h m.sequences m.values m.pages m.blocks [] g slots 0 below
     ∙ ap (λ (t : Bool). cond (t || not (holds_value ((decode h m).pages g))) (returned_by (decode h m) []) (take_slots_of (decode h m) g (is_set slots))) marked
 
--- a mark is 0 or 1
-pub marked-lt : (b : ℕ) (x : BlockWords) (g : ℕ) → page_retired_of b x g < 2
-unfolding page_retired_of
-marked-lt b x g = bit-lt _ (g % 64)
-
 -- what the tactics know of a page that is retired
-pub ruleset skipping = (retired-skipped, marked-lt)
+pub ruleset skipping = (retired-skipped)

@@ -9,7 +9,8 @@ pub mod span;
 use window::AdaptiveReceiverPacketWindow;
 
 // The header after values were taken out or retired, how many were put into the return list, and whether each occupied position met
-// had a cell.
+// had a cell. The header and the count are given either way, since what was handed back stays handed back on an unsound state too: so
+// `sound` is a field and no Err.
 #[derive(Clone, Copy)]
 pub struct Retired {
     pub window: AdaptiveReceiverPacketWindow,

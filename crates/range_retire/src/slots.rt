@@ -139,7 +139,7 @@ pub fn remove_slots(
             sound: true,
         };
     }
-    if page_retired(blocks, w.retired_blocks, page) == 1 {
+    if page_retired(blocks, w.retired_blocks, page) {
         return Retired {
             window: w,
             count: 0,

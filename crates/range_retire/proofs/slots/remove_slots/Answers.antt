@@ -1,4 +1,4 @@
-use Rattle.std.proofs.Common.{length, arith}
+use Rattle.std.proofs.Common.{length, rules}
 use Rattle.range_retire.proofs.TakeLaws.{page-in, skips-empty, removes-slots}
 use Rattle.range_retire.proofs.slots.remove_slots.Goals as goal
 
@@ -26,4 +26,4 @@ pub returns : goal.returns
 returns c =
     let a = c.args in
     removes-slots a.w a.sequences.now a.values.now a.pages.now a.blocks.now a.returned.now a.page a.slots a.at c.requires.page_bound.0 _ c.page_words-words.ensures _ c.page_retired.ensures
-    (λ e. omega (arith, e)) c.if-words-eq0.false _ _ _ c.take_slots.ensures
+    (search rules) c.if-words-eq0.false _ _ _ c.take_slots.ensures
