@@ -1,12 +1,14 @@
 -- The loop that passes over the cells in use, from the lowest on, over plain variables. Assumes nothing.
 use mathlib.Core.Path.{◌≡◌, sym, ap, ◌∙◌}
+use mathlib.Core.Bool.{true, false}
 use mathlib.Core.List.{List}
 use Prim.Native.Nat.{ℕ, ◌%◌, ◌^◌, ◌<◌}
 use native.Mathlib.Omega.{arith}
 use native.Mathlib.Decide.{ℕ_discrete}
 use lib.Dec.{eqb}
 use lib.ListN.{get_or}
-use Rattle.words.specs.Word.{bit_at, set_bit, clear_bit, count, lowest}
+use borrow.Author.Tests.{eqb-true, eqb-false}
+use Rattle.words.specs.Word.{bit_at, is_set, set_bit, clear_bit, count, lowest}
 use Rattle.words.proofs.BitLaws.{bit-lt, bit-none, ext-bits}
 use Rattle.words.proofs.ChangeLaws.{with-same, with-other, with-lt}
 use Rattle.words.proofs.CountLaws.{count-clear}
@@ -82,14 +84,14 @@ module _ (n cap g : ℕ) (w : PageWords) (f : ℕ → ℕ) where
       not_sound h ok = h (rw at.sequence at (ok.cell c at.inside used))
 
       -- its position was named already
-      pub named-twice : bit_at named (s % 64) ≡ 1 → SoundCells n cap g w f → ⊥
+      pub named-twice : is_set named (s % 64) ≡ true → SoundCells n cap g w f → ⊥
       named-twice b ok =
-          let h = t.named_by (s % 64) (omega arith) b in
+          let h = t.named_by (s % 64) (omega arith) (eqb-true _ _ b) in
           let e = ok.once h.0 c h.1.inside at.inside h.1.used used (h.2 ∙ sym position) in
           omega (arith, ap (bit_at rest) e, h.1.passed, at.held)
 
       -- it is sound, and its position was not named
-      module _ (sound : SoundCell n cap g w.kind c s) (free : bit_at named (s % 64) ≡ 1 → ⊥) where
+      module _ (sound : SoundCell n cap g w.kind c s) (free : is_set named (s % 64) ≡ false) where
         earlier : (d : ℕ) → IsPassed (clear_bit rest c) d → (d ≡ c → ⊥) → IsPassed rest d
         earlier d i h = record { inside = i.inside; used = i.used; passed = sym (with-other rest c 0 d (omega arith) h) ∙ i.passed }
 
@@ -100,7 +102,7 @@ module _ (n cap g : ℕ) (w : PageWords) (f : ℕ → ℕ) where
 
         -- no cell passed earlier has this position
         apart : (d : ℕ) → IsPassed rest d → f d % 64 ≡ f c % 64 → ⊥
-        apart d i e = free (ap (bit_at named) (sym position ∙ sym e) ∙ t.names d i)
+        apart d i e = eqb-false _ _ free (ap (bit_at named) (sym position ∙ sym e) ∙ t.names d i)
 
         pub passed-turn : Passed (clear_bit rest c) (set_bit named (s % 64))
         passed-turn = record {
@@ -167,6 +169,3 @@ module _ (n cap g : ℕ) (w : PageWords) (f : ℕ → ℕ) where
       pub passed-ends : w.occupied < 2 ^ 64 → Decides (SoundCells n cap g w f) (eqb named w.occupied)
       passed-ends l = decides-same (eqb named w.occupied) (decides_eq named w.occupied) whole
           (λ ok. ext-bits 64 named w.occupied t.named-fits l (same ok))
-
--- a bit is 0 or 1
-pub ruleset bits = (bit-lt)

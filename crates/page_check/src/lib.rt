@@ -6,7 +6,7 @@ ghost use Rattle.window.specs.Memory.{capacity};
 ghost use Rattle.page_base.specs.Page.{cells};
 ghost use Rattle.page_check.specs.Promises.{Decides, SoundCell, SoundCells, DecidesPage};
 
-use page_base::PageWords;
+use page_base::{DENSE, NONE, PageWords, SPARSE};
 use window::memory::{PAGE_SLOTS, position};
 use window::refusals::is_wire_number;
 
@@ -22,14 +22,13 @@ fn cell_sound(kind: u64, n: usize, window_size: u32, page: usize, c: usize, sequ
     if position(window_size, sequence) / PAGE_SLOTS != page {
         return false;
     }
-    if kind == 1 {
+    if kind == SPARSE {
         return c < n;
     }
     (sequence % 64) as usize == c
 }
 
 // Whether every cell in use is sound, and `occupied` names just their positions, each once.
-#[tactic(auto, using(crate::proofs::CellLoopLaws::bits))]
 fn cells_sound(sequences: &[u32], words: PageWords, n: usize, window_size: u32, page: usize) -> bool
     requires { (length sequences.now ≡ 64) × (1 ≤ words.kind) × (words.kind ≤ 2) × (window_size ≤ 65536) }
     ensures { Decides (SoundCells n (capacity window_size) page words (cells sequences.now)) result }
@@ -45,7 +44,7 @@ fn cells_sound(sequences: &[u32], words: PageWords, n: usize, window_size: u32, 
         if !cell_sound(kind, n, window_size, page, c, sequence) {
             return false;
         }
-        if words::bit(named, slot) == 1 {
+        if words::bit(named, slot) {
             return false;
         }
         named = words::set(named, slot);
@@ -65,25 +64,17 @@ pub fn page_sound(
     requires { (length sequences.now ≡ 64) × (window_size ≤ 65536) }
     ensures { DecidesPage n window_size page words sequences.now result }
 {
-    let kind = words.kind;
-    let occupied = words.occupied;
-    let filled = words.filled;
-    if kind == 0 {
-        if occupied != 0 {
-            return false;
-        }
-        return filled == 0;
+    if words.kind == NONE {
+        return words.occupied == 0 && words.filled == 0;
     }
-    if 2 < kind {
+    if DENSE < words.kind {
         return false;
     }
-    if occupied == 0 {
+    if words.occupied == 0 {
         return false;
     }
-    if kind == 2 {
-        if filled != occupied {
-            return false;
-        }
+    if words.kind == DENSE && words.filled != words.occupied {
+        return false;
     }
     cells_sound(sequences, words, n, window_size, page)
 }
