@@ -1,10 +1,10 @@
 -- The next retired page, over plain variables: two searches by the masks, from the cursor upwards and then up to it. Assumes nothing.
-use mathlib.Core.Path.{◌≡◌, sym, ◌∙◌}
+use Rattle.std.specs.Prelude.{Option, None, Some, IfSome, unwrap_or}
+use mathlib.Core.Path.{◌≡◌, sym, ap, ◌∙◌, subst}
 use mathlib.Core.Bool.{Bool, ◌&&◌}
 use mathlib.Core.List.{List}
 use Prim.Native.Nat.{ℕ, ◌-◌, ◌≤◌, ◌<◌}
 use native.Mathlib.Omega.{arith}
-use native.Mathlib.Nat.{le_refl}
 use borrow.Author.Tests.{lt-ltb, le-ltb}
 use Rattle.words.specs.First.{first_from_of, first_round}
 use Rattle.words.proofs.FirstLaws.{round_up, round-low, round-end, round_same}
@@ -37,31 +37,31 @@ module _ (h : AdaptiveReceiverPacketWindow) (blocks : List ℕ) where
 
   module _ (end : ℕ) (e : end ≡ page_count_of h.window_size) where
     -- a search round that gives r
-    finds : (r : ℕ) → r ≤ end → first_round selected end cursor ≡ r → FindsRetired h blocks r
+    finds : (r : Option ℕ) → IfSome r (λ g. g < end) → first_round selected end cursor ≡ unwrap_or r end → FindsRetired h blocks r
     finds r l i = record {
-      bounded = omega arith;
-      gives = λ ss vs pages ok. sym i ∙ (λ j. first_round selected (e j) cursor) ∙ round-next ss vs pages ok;
+      bounded = subst (λ (n : ℕ). IfSome r (λ g. g < n)) e l;
+      gives = λ ss vs pages ok. ap (unwrap_or r) (sym e) ∙ sym i ∙ (λ j. first_round selected (e j) cursor) ∙ round-next ss vs pages ok;
     }
 
     -- a cursor past the last page, which a sound window has not
-    pub finds_past : end ≤ cursor → FindsRetired h blocks end
+    pub finds_past : end ≤ cursor → FindsRetired h blocks None
     unfolding decode
-    finds_past l = record { bounded = omega arith; gives = λ ss vs pages ok. absurd (omega (arith, ok.cursor)) }
+    finds_past l = record { bounded = tt; gives = λ ss vs pages ok. absurd (omega (arith, ok.cursor)) }
 
-    module _ (inside : cursor < end) (up : ℕ) (a : up ≡ first_from_of selected (end - cursor) cursor) where
-      pub finds-up : up < end → FindsRetired h blocks up
-      finds-up l = finds up (omega arith) (round_up selected end cursor (lt-ltb _ end (omega (arith, a))) ∙ sym a)
+    module _ (inside : cursor < end) where
+      pub finds-up : (up : ℕ) → up ≡ first_from_of selected (end - cursor) cursor → up < end → FindsRetired h blocks (Some up)
+      finds-up up a l = finds (Some up) l (round_up selected end cursor (lt-ltb _ end (omega (arith, a))) ∙ sym a)
 
-      module _ (past : end ≤ up) (low : ℕ) (b : low ≡ first_from_of selected (cursor - 0) 0) where
-        low-is : low ≡ first_from_of selected cursor 0
-        low-is = let z : cursor - 0 ≡ cursor = omega arith in b ∙ (λ j. first_from_of selected (z j) 0)
-
-        pub finds-low : low < cursor → FindsRetired h blocks low
-        finds-low l =
-            finds low (omega arith)
-            (round-low selected end cursor (le-ltb (first_from_of selected (end - cursor) cursor) end (omega (arith, a))) (lt-ltb (first_from_of selected cursor 0) cursor (omega (arith, low-is))) ∙ sym low-is)
-
-        pub finds-none : cursor ≤ low → FindsRetired h blocks end
-        finds-none l =
-            finds end (le_refl end)
-            (round-end selected end cursor (le-ltb (first_from_of selected (end - cursor) cursor) end (omega (arith, a))) (le-ltb (first_from_of selected cursor 0) cursor (omega (arith, low-is))))
+      -- none from the cursor upwards, and then those below it
+      pub finds-low : end ≡ first_from_of selected (end - cursor) cursor → (low : Option ℕ) → unwrap_or low cursor ≡ first_from_of selected (cursor - 0) 0
+          → IfSome low (λ g. g < cursor) → FindsRetired h blocks low
+      finds-low a (Some g) b l =
+          let z : cursor - 0 ≡ cursor = omega arith in
+          let is : g ≡ first_from_of selected cursor 0 = b ∙ (λ j. first_from_of selected (z j) 0) in
+          finds (Some g) (omega (arith, l))
+          (round-low selected end cursor (le-ltb (first_from_of selected (end - cursor) cursor) end (omega (arith, a))) (lt-ltb (first_from_of selected cursor 0) cursor (omega (arith, is, l))) ∙ sym is)
+      finds-low a None b l =
+          let z : cursor - 0 ≡ cursor = omega arith in
+          let is : cursor ≡ first_from_of selected cursor 0 = b ∙ (λ j. first_from_of selected (z j) 0) in
+          finds None tt
+          (round-end selected end cursor (le-ltb (first_from_of selected (end - cursor) cursor) end (omega (arith, a))) (le-ltb (first_from_of selected cursor 0) cursor (omega (arith, is))))

@@ -1,4 +1,5 @@
 -- A release visit, over plain variables: a page inspected and the cursor moved, one turn of the loop, and its ends. Assumes nothing.
+use Rattle.std.specs.Prelude.{None, Some}
 use mathlib.Core.Path.{◌≡◌, refl, sym, ap, ◌∙◌, subst}
 use mathlib.Core.Bool.{true, false, cond, true≢false}
 use mathlib.Core.List.{List, [], ◌++◌, append-nil, append_assoc}
@@ -157,28 +158,28 @@ module _ (h : AdaptiveReceiverPacketWindow) (ss vs pages₀ blocks₀ l₀ : Lis
 
     -- ---- one turn: a page is inspected
 
-    module _ (more : units < budget) (held : w.retired_held ≡ 0 → ⊥) (g : ℕ) (found : FindsRetired w blocks g) where
+    module _ (more : units < budget) (held : w.retired_held ≡ 0 → ⊥) where
       module _ (ok : Sound (decode h (memory ss vs pages₀ blocks₀))) where
         there : Sound v
         there = t.sound ok
-
-        next : g ≡ next_retired_of v
-        next = found.gives ss vs pages there
 
         some : ltb (next_retired_of v) (pages_of v) ≡ true
         unfolding decode
         some = bool (ltb (next_retired_of v) (pages_of v)) (λ e. e) (λ e. absurd (held (next-none v there e)))
 
-        below : g < page_count_of w.window_size
-        unfolding decode
-        below = omega (arith, next, ltb-true (next_retired_of v) (pages_of v) some)
-
       -- values are held, but no page is found
-      pub none_found : page_count_of w.window_size ≤ g → Sound before → ⊥
-      none_found past ok = omega (arith, below ok)
+      pub none_found : FindsRetired w blocks None → Sound before → ⊥
+      unfolding decode
+      none_found found ok = omega (arith, found.gives ss vs pages (there ok), ltb-true (next_retired_of v) (pages_of v) (some ok))
 
-      module _ (inside : g < page_count_of w.window_size) (r : PageReleased) (pages' blocks' l' : List ℕ)
+      module _ (g : ℕ) (found : FindsRetired w blocks (Some g)) (r : PageReleased) (pages' blocks' l' : List ℕ)
           (visit : VisitsPage w ss vs pages blocks l g (at + count) (budget - (units + 1)) r pages' blocks' l') (room : at + budget ≤ length l₀) where
+        next : Sound before → g ≡ next_retired_of v
+        next ok = found.gives ss vs pages (there ok)
+
+        page-inside : g < page_count_of w.window_size
+        page-inside = found.bounded
+
         abbrev b : ℕ
         b = budget - (units + 1)
 
@@ -205,11 +206,11 @@ module _ (h : AdaptiveReceiverPacketWindow) (ss vs pages₀ blocks₀ l₀ : Lis
         turn-sound ok =
             let n = next-is v (there ok) (ltb-true (next_retired_of v) (pages_of v) (some ok)) in
             subst Sound (sym (visit.gives (there ok)))
-            (proper-visit v g b (proper-decode w (memory ss vs pages blocks) (there ok)) inside (ap (is_retired v) (next ok) ∙ n.0)).sound
+            (proper-visit v g b (proper-decode w (memory ss vs pages blocks) (there ok)) page-inside (ap (is_retired v) (next ok) ∙ n.0)).sound
 
         pub visiting-turn : Visiting pages' blocks' l' r.window (count + r.count) (units + 1 + r.count)
         visiting-turn = record {
-          within = within-then h.window_size g pages₀ blocks₀ pages blocks pages' blocks' (subst (λ (x : ℕ). g < page_count_of x) size-kept inside) t.within visit.within;
+          within = within-then h.window_size g pages₀ blocks₀ pages blocks pages' blocks' (subst (λ (x : ℕ). g < page_count_of x) size-kept page-inside) t.within visit.within;
           wrote = wrote_then at count r.count l₀ l l' t.wrote visit.wrote;
           few = omega (arith, t.few);
           paid = omega (arith, visit.few);

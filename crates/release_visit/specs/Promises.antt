@@ -1,6 +1,6 @@
 -- What releases over several pages promise: on any memory, where they write; on a sound window, what the model's definitions say.
 -- Definitions only. Assumes nothing.
-use Rattle.std.specs.Prelude.{◌≡◌, true, cond, List, ℕ, ◌+◌, ◌*◌, ◌%◌, ◌≤◌, eqb, length, drop}
+use Rattle.std.specs.Prelude.{Option, IfSome, unwrap_or, ◌≡◌, true, cond, List, ℕ, ◌+◌, ◌*◌, ◌%◌, ◌<◌, ◌≤◌, eqb, length, drop}
 use Rattle.window.specs.declared.AdaptiveReceiverPacketWindow.{AdaptiveReceiverPacketWindow}
 use Rattle.window.specs.Memory.{memory, page_count_of, block_count_of, words_per_page, words_per_block}
 use Rattle.model.specs.Window.{decode}
@@ -24,10 +24,11 @@ pub record WithinNamed (size : ℕ) (pages blocks pages' blocks' : List ℕ) : T
   pub pages_past : drop (words_per_page * page_count_of size) pages' ≡ drop (words_per_page * page_count_of size) pages
   pub blocks_past : drop (words_per_block * block_count_of size) blocks' ≡ drop (words_per_block * block_count_of size) blocks
 
--- r is the next page to inspect, the number of pages if there is none
-pub record FindsRetired (h : AdaptiveReceiverPacketWindow) (blocks : List ℕ) (r : ℕ) : Type 0 where
-  pub bounded : r ≤ page_count_of h.window_size
-  pub gives : (ss vs pages : List ℕ) → Sound (decode h (memory ss vs pages blocks)) → r ≡ next_retired_of (decode h (memory ss vs pages blocks))
+-- r is the next page to inspect, if there is one: for none the model says the number of pages
+pub record FindsRetired (h : AdaptiveReceiverPacketWindow) (blocks : List ℕ) (r : Option ℕ) : Type 0 where
+  pub bounded : IfSome r (λ g. g < page_count_of h.window_size)
+  pub gives : (ss vs pages : List ℕ) → Sound (decode h (memory ss vs pages blocks))
+      → unwrap_or r (page_count_of h.window_size) ≡ next_retired_of (decode h (memory ss vs pages blocks))
 
 module _ (h : AdaptiveReceiverPacketWindow) (ss vs pages blocks l : List ℕ) where
   -- page g inspected

@@ -3,7 +3,7 @@ ghost use Rattle.std.specs.Prelude.{◌+◌, ◌*◌, ◌≤◌, ◌<◌, length
 ghost use Rattle.window.specs.Memory.{capacity, page_count_of, block_count_of, words_per_page, words_per_block};
 ghost use Rattle.release_visit.specs.Promises.{ReleasesPages};
 
-use block_search::next_nonempty_page;
+use block_search::{Select, next_page};
 use page_release::{PageReleased, release_page};
 use window::AdaptiveReceiverPacketWindow;
 use window::memory::page_count;
@@ -30,21 +30,23 @@ pub fn release_pages(
     let mut count: usize = 0;
     let mut from: usize = 0;
     while count < limit {
-        if window.len == 0 {
-            if window.retired_held == 0 {
-                break;
-            }
+        if window.len == 0 && window.retired_held == 0 {
+            break;
         }
-        let nonempty_summary = window.nonempty_summary;
-        let retired_blocks = window.retired_blocks;
-        let page = next_nonempty_page(blocks, nonempty_summary, retired_blocks, from, end);
-        if end <= page {
+        let Some(page) = next_page(
+            blocks,
+            window.nonempty_summary,
+            window.retired_blocks,
+            from,
+            end,
+            Select::Nonempty,
+        ) else {
             return PageReleased {
                 window,
                 count,
                 sound: false,
             };
-        }
+        };
         let released = release_page(
             window,
             sequences,

@@ -9,14 +9,15 @@ ghost use Rattle.page_base.specs.Page.{words_at};
 ghost use Rattle.release_visit.specs.Promises.{next_cursor_of, FindsRetired, VisitsPage, Releases};
 
 use block_marks::marks::settle_retired;
-use block_search::next_retired_page;
+use block_search::{Select, next_page};
 use page_base::page_words;
 use page_release::{PageReleased, release_page};
 use window::AdaptiveReceiverPacketWindow;
 use window::memory::page_count;
 
 // The header after a release visit, how many values were handed back, the units used, and whether the retired values held were found
-// in retired pages, each in a cell.
+// in retired pages, each in a cell. The header and the numbers are given either way, since what was handed back stays handed back on an
+// unsound state too: so `sound` is a field and no Err.
 #[derive(Clone, Copy)]
 pub struct Visited {
     pub window: AdaptiveReceiverPacketWindow,
@@ -25,29 +26,37 @@ pub struct Visited {
     pub sound: bool,
 }
 
-// The first retired page that holds a value, from the cursor upwards and then round; `end`, the number of pages, if there is none.
-fn next_retired(w: AdaptiveReceiverPacketWindow, blocks: &[u64], end: usize) -> usize
+// The first retired page that holds a value, of the `end` pages: from the cursor upwards and then round.
+fn next_retired(w: AdaptiveReceiverPacketWindow, blocks: &[u64], end: usize) -> Option<usize>
     requires { (end ≡ page_count_of w.window_size) × (words_per_block * block_count_of w.window_size ≤ length blocks.now) }
     ensures { FindsRetired w blocks.now result }
 {
     let cursor = w.release_cursor as usize;
-    let nonempty_summary = w.nonempty_summary;
-    let retired_blocks = w.retired_blocks;
     if end <= cursor {
-        return end;
+        return None;
     }
-    let page = next_retired_page(blocks, nonempty_summary, retired_blocks, cursor, end);
-    if page < end {
-        return page;
+    if let Some(page) = next_page(
+        blocks,
+        w.nonempty_summary,
+        w.retired_blocks,
+        cursor,
+        end,
+        Select::Retired,
+    ) {
+        return Some(page);
     }
-    let page = next_retired_page(blocks, nonempty_summary, retired_blocks, 0, cursor);
-    if page < cursor {
-        return page;
-    }
-    end
+    next_page(
+        blocks,
+        w.nonempty_summary,
+        w.retired_blocks,
+        0,
+        cursor,
+        Select::Retired,
+    )
 }
 
 // The cursor after page `page` was inspected: an emptied page moves it to the next page, another keeps it there.
+#[tactic(auto, unfolding(crate::specs::Promises::next_cursor_of))]
 fn next_cursor(pages: &[u64], page: usize, end: usize) -> u32
     requires { (page < end) × (end ≤ 1024) × RowIn words_per_page page pages.now }
     ensures { result ≡ next_cursor_of (words_at pages.now page) page end }
@@ -113,15 +122,14 @@ pub fn release_retired(
         if window.retired_held == 0 {
             break;
         }
-        let page = next_retired(window, blocks, end);
-        if end <= page {
+        let Some(page) = next_retired(window, blocks, end) else {
             return Visited {
                 window,
                 count,
                 units,
                 sound: false,
             };
-        }
+        };
         units += 1;
         let visited = visit_page(
             window,

@@ -26,18 +26,16 @@ long c =
 pub loop-units-init : goal.loop-units-init
 loop-units-init c = visiting-begins _ _ _ _ _ _ _ _
 
-pub next_retired-page-requires : goal.next_retired-page-requires
-next_retired-page-requires c =
-    let at = (goal.at.next_retired-page-requires c).At-loop-units in
+pub next_retired-requires : goal.next_retired-requires
+next_retired-requires c =
+    let at = (goal.at.next_retired-requires c).At-loop-units in
     (end_is at, (long at).blocks_long)
 
-pub returns-then-end-page : goal.returns-then-end-page
-returns-then-end-page c =
-    let at = (goal.at.returns-then-end-page c).At-loop-units in
+pub returns-in_default : goal.returns-in_default
+returns-in_default c =
     let a = c.args in
     visiting-unsound a.w a.sequences.now a.values.now a.pages.now a.blocks.now a.returned.now a.at a.budget _ _ _ _ _ _ c.loop-units.invariant
-    (none_found _ _ _ _ _ _ _ _ _ _ _ _ _ _ c.loop-units.invariant c.loop-units-test.true c.if-window-eq0.false _ c.next_retired-page.ensures
-    (omega (arith, c.if-end-page.true, end_is at)))
+    (none_found _ _ _ _ _ _ _ _ _ _ _ _ _ _ c.loop-units.invariant c.loop-units-test.true c.if-window-eq0.false c.in_default.ensures)
 
 pub visit_page-visited-requires : goal.visit_page-visited-requires
 visit_page-visited-requires c =
@@ -45,7 +43,7 @@ visit_page-visited-requires c =
     let inv = c.loop-units.invariant in
     let need = c.requires.window_size_bound in
     record {
-      end_value = (end_is at, omega (arith, c.if-end-page.false), omega (arith, cells_is at, need.1), omega (arith, need.2), omega (arith, need.3, inv.wrote.long, inv.few, c.loop-units-test.true));
+      end_value = (end_is at, omega (arith, end_is at, c.in-Some.ensures.bounded), omega (arith, cells_is at, need.1), omega (arith, need.2), omega (arith, need.3, inv.wrote.long, inv.few, c.loop-units-test.true));
       window_size_in_bounds = ((long at).sequences_long, (long at).values_long, (long at).pages_long, (long at).blocks_long);
     }
 
@@ -66,14 +64,11 @@ shape_of-returned-then-not-visited c = c.visit_page-visited.ensures.wrote.long â
 
 pub returns-then-not-visited : goal.returns-then-not-visited
 returns-then-not-visited c =
-    let at = (goal.at.returns-then-not-visited c).At-loop-units in
     let a = c.args in
     visiting-unsound a.w a.sequences.now a.values.now a.pages.now a.blocks.now a.returned.now a.at a.budget _ _ _ _ _ _
-    (visiting-turn _ _ _ _ _ _ _ _ _ _ _ _ _ _ c.loop-units.invariant c.loop-units-test.true c.if-window-eq0.false _ c.next_retired-page.ensures
-    (omega (arith, c.if-end-page.false, end_is at)) _ _ _ _
+    (visiting-turn _ _ _ _ _ _ _ _ _ _ _ _ _ _ c.loop-units.invariant c.loop-units-test.true c.if-window-eq0.false _ c.in-Some.ensures _ _ _ _
     c.visit_page-visited.ensures c.requires.window_size_bound.3)
-    (visit-unsound _ _ _ _ _ _ _ _ _ _ _ _ _ _ c.loop-units.invariant c.loop-units-test.true c.if-window-eq0.false _ c.next_retired-page.ensures
-    (omega (arith, c.if-end-page.false, end_is at)) _ _ _ _
+    (visit-unsound _ _ _ _ _ _ _ _ _ _ _ _ _ _ c.loop-units.invariant c.loop-units-test.true c.if-window-eq0.false _ c.in-Some.ensures _ _ _ _
     c.visit_page-visited.ensures c.requires.window_size_bound.3 (not-true _ c.if-not-visited.true))
 
 pub loop-units-smaller : goal.loop-units-smaller
@@ -81,9 +76,7 @@ loop-units-smaller c = omega (arith, c.loop-units-test.true)
 
 pub loop-units-preserved : goal.loop-units-preserved
 loop-units-preserved c =
-    let at = (goal.at.loop-units-preserved c).At-loop-units in
-    visiting-turn _ _ _ _ _ _ _ _ _ _ _ _ _ _ c.loop-units.invariant c.loop-units-test.true c.if-window-eq0.false _ c.next_retired-page.ensures
-    (omega (arith, c.if-end-page.false, end_is at)) _ _ _ _
+    visiting-turn _ _ _ _ _ _ _ _ _ _ _ _ _ _ c.loop-units.invariant c.loop-units-test.true c.if-window-eq0.false _ c.in-Some.ensures _ _ _ _
     c.visit_page-visited.ensures c.requires.window_size_bound.3
 
 pub returns : goal.returns

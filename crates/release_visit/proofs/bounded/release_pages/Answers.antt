@@ -1,6 +1,6 @@
 use mathlib.Core.Path.{◌≡◌, ap, ◌∙◌}
-use mathlib.Core.Logic.{inl, inr}
-use Prim.Native.Nat.{ℕ, ◌-◌, ◌*◌, ◌≤◌}
+use mathlib.Core.Logic.{inl, inr, ⊎_elim}
+use Prim.Native.Nat.{ℕ, ◌-◌, ◌*◌, ◌≤◌, ◌<◌}
 use native.Mathlib.Omega.{arith}
 use lib.ListN.{length}
 use borrow.Author.Tests.{not-true}
@@ -13,7 +13,7 @@ use Rattle.laws_soundness.specs.Change.{Limits}
 use Rattle.release_visit.proofs.VisitLaws.{long_kept}
 use Rattle.release_visit.proofs.BoundedLaws.{passing_begins, passing-turn, passing-unsound, passing-ends, next-ge, none_found, page-unsound}
 use Rattle.release_visit.proofs.bounded.release_pages.Goals as goal
-use Rattle.release_visit.proofs.bounded.release_pages.Goals.{At-loop-count, Joined-window-eq0, After-next_nonempty_page-page, then-window-eq0+else-window-eq0-2, else-window-eq0}
+use Rattle.release_visit.proofs.bounded.release_pages.Goals.{At-loop-count, Joined-else-window-eq0, In-Some}
 
 -- at the head of the loop: the limits are those of the call's header, and the lists are as long as they name them
 cells_is : (c : At-loop-count) → c.loop-count.window.n ≡ c.args.w.n
@@ -25,43 +25,46 @@ blocks_long c =
     (long_kept c.args.w c.loop-count.window _ _ c.args.pages.now c.args.blocks.now c.loop-count.pages c.loop-count.blocks c.loop-count.invariant.limits c.loop-count.invariant.within
     (record { sequences_long = need.0; values_long = need.1; pages_long = need.2; blocks_long = need.3 })).blocks_long
 
--- in the loop: a value is held, and the page that the search gives
-some-held : (c : Joined-window-eq0) → c.loop-count.window.len ≡ 0 → c.loop-count.window.retired_held ≡ 0 → ⊥
-some-held c a b = elim c.if-window-eq0.branch [ then-window-eq0+else-window-eq0-2 w ↦ w.if-window-eq0-2.false b | else-window-eq0 w ↦ w.if-window-eq0.false a ]
+-- in the loop: a value is held
+some-held : (c : Joined-else-window-eq0) → c.loop-count.window.len ≡ 0 → c.loop-count.window.retired_held ≡ 0 → ⊥
+some-held c a b = ⊎_elim (λ h. h.1 b) (λ h. h a) c.else-window-eq0.either
 
-page-is : (c : After-next_nonempty_page-page) →
+-- the search goes up to the number of pages
+first-is : (c : At-loop-count) (g : ℕ) →
     let p = c.loop-count in
-    c.next_nonempty_page-page.result
-    ≡ first_from_of (is_selected p.blocks p.window.nonempty_summary p.window.retired_blocks Nonempty) (page_count_of c.args.w.window_size - p.from) p.from
-page-is c =
+    g ≡ first_from_of (is_selected p.blocks p.window.nonempty_summary p.window.retired_blocks Nonempty) (c.page_count-end.result - p.from) p.from
+    → g ≡ first_from_of (is_selected p.blocks p.window.nonempty_summary p.window.retired_blocks Nonempty) (page_count_of c.args.w.window_size - p.from) p.from
+first-is c g e =
     let p = c.loop-count in
-    c.next_nonempty_page-page.ensures
-    ∙ ap (λ (x : ℕ). first_from_of (is_selected p.blocks p.window.nonempty_summary p.window.retired_blocks Nonempty) (x - p.from) p.from) c.page_count-end.ensures
+    e ∙ ap (λ (x : ℕ). first_from_of (is_selected p.blocks p.window.nonempty_summary p.window.retired_blocks Nonempty) (x - p.from) p.from) c.page_count-end.ensures
+
+page-lt : (c : In-Some) → c.in-Some.page < page_count_of c.args.w.window_size
+page-lt c = omega (arith, c.in-Some.ensures.in_range, c.page_count-end.ensures)
 
 pub loop-count-init : goal.loop-count-init
 loop-count-init c = passing_begins _ _ _ _ _ _ _ _
 
-pub next_nonempty_page-page-requires : goal.next_nonempty_page-page-requires
-next_nonempty_page-page-requires c =
+pub next_page-requires : goal.next_page-requires
+next_page-requires c =
     let end_is = c.page_count-end.ensures in
     let t = c.loop-count.invariant in
     (omega (arith, end_is, t.low), omega (arith, end_is, page-count-le c.args.w.window_size), omega (arith, end_is, c.requires.window_size_in_bounds.3, t.within.blocks_long))
 
-pub returns-then-end-page : goal.returns-then-end-page
-returns-then-end-page c =
+pub returns-in_default : goal.returns-in_default
+returns-in_default c =
     let a = c.args in
     let t = c.loop-count.invariant in
-    let at = goal.at.returns-then-end-page c in
+    let at = goal.at.returns-in_default c in
     passing-unsound a.w a.sequences.now a.values.now a.pages.now a.blocks.now a.returned.now a.at a.limit _ _ _ _ _ _ t
-    (none_found _ _ _ _ _ _ _ _ _ _ _ _ _ _ t c.loop-count-test.true (some-held at.Joined-window-eq0) _ (page-is at.After-next_nonempty_page-page)
-    (omega (arith, c.if-end-page.true, c.page_count-end.ensures)))
+    (none_found _ _ _ _ _ _ _ _ _ _ _ _ _ _ t c.loop-count-test.true (some-held at.Joined-else-window-eq0) _ (first-is at.At-loop-count _ c.in_default.ensures.first)
+    (omega (arith, c.page_count-end.ensures)))
 
 pub release_page-released-requires : goal.release_page-released-requires
 release_page-released-requires c =
     let size = c.args.w.window_size in
     let end_is = c.page_count-end.ensures in
     let t = c.loop-count.invariant in
-    let low = c.if-end-page.false in
+    let low = c.in-Some.ensures.in_range in
     let need = c.requires.window_size_in_bounds in
     let few = c.requires.window_size_bound in
     record {
@@ -78,7 +81,7 @@ pub overflow_add-count : goal.overflow_add-count
 overflow_add-count c = omega (arith, c.release_page-released.ensures.few, c.loop-count-test.true, c.requires.window_size_bound.2)
 
 pub overflow_add-from : goal.overflow_add-from
-overflow_add-from c = omega (arith, c.if-end-page.false, c.page_count-end.ensures, page-count-le c.args.w.window_size)
+overflow_add-from c = omega (arith, c.in-Some.ensures.in_range, c.page_count-end.ensures, page-count-le c.args.w.window_size)
 
 pub shape_of-pages-then-not-released : goal.shape_of-pages-then-not-released
 shape_of-pages-then-not-released c = c.release_page-released.ensures.within.pages_long ∙ c.loop-count.invariant.within.pages_long
@@ -95,11 +98,11 @@ returns-then-not-released c =
     let t = c.loop-count.invariant in
     let at = goal.at.returns-then-not-released c in
     passing-unsound a.w a.sequences.now a.values.now a.pages.now a.blocks.now a.returned.now a.at a.limit _ _ _ _ _ _
-    (passing-turn _ _ _ _ _ _ _ _ _ _ _ _ _ _ t c.loop-count-test.true (some-held at.Joined-window-eq0) _ (page-is at.After-next_nonempty_page-page)
-    (omega (arith, c.if-end-page.false, c.page_count-end.ensures)) (blocks_long at.At-loop-count) _ (cells_is at.At-loop-count) _ _ _ _ c.release_page-released.ensures
+    (passing-turn _ _ _ _ _ _ _ _ _ _ _ _ _ _ t c.loop-count-test.true (some-held at.Joined-else-window-eq0) _ (first-is at.At-loop-count _ c.in-Some.ensures.first)
+    (page-lt at.In-Some) (blocks_long at.At-loop-count) _ (cells_is at.At-loop-count) _ _ _ _ c.release_page-released.ensures
     c.requires.window_size_bound.3)
-    (page-unsound _ _ _ _ _ _ _ _ _ _ _ _ _ _ t c.loop-count-test.true (some-held at.Joined-window-eq0) _ (page-is at.After-next_nonempty_page-page)
-    (omega (arith, c.if-end-page.false, c.page_count-end.ensures)) (blocks_long at.At-loop-count) _ (cells_is at.At-loop-count) _ _ _ _ c.release_page-released.ensures
+    (page-unsound _ _ _ _ _ _ _ _ _ _ _ _ _ _ t c.loop-count-test.true (some-held at.Joined-else-window-eq0) _ (first-is at.At-loop-count _ c.in-Some.ensures.first)
+    (page-lt at.In-Some) (blocks_long at.At-loop-count) _ (cells_is at.At-loop-count) _ _ _ _ c.release_page-released.ensures
     c.requires.window_size_bound.3 (not-true _ c.if-not-released.true))
 
 pub loop-count-smaller : goal.loop-count-smaller
@@ -107,15 +110,15 @@ loop-count-smaller c =
     let at = goal.at.loop-count-smaller c in
     omega (
       arith,
-      next-ge _ _ _ _ _ _ _ _ _ _ _ _ _ _ c.loop-count.invariant c.loop-count-test.true (some-held at.Joined-window-eq0) _ (page-is at.After-next_nonempty_page-page),
-      c.if-end-page.false,
+      next-ge _ _ _ _ _ _ _ _ _ _ _ _ _ _ c.loop-count.invariant c.loop-count-test.true (some-held at.Joined-else-window-eq0) _ (first-is at.At-loop-count _ c.in-Some.ensures.first),
+      c.in-Some.ensures.in_range,
     )
 
 pub loop-count-preserved : goal.loop-count-preserved
 loop-count-preserved c =
     let at = goal.at.loop-count-preserved c in
-    passing-turn _ _ _ _ _ _ _ _ _ _ _ _ _ _ c.loop-count.invariant c.loop-count-test.true (some-held at.Joined-window-eq0) _ (page-is at.After-next_nonempty_page-page)
-    (omega (arith, c.if-end-page.false, c.page_count-end.ensures)) (blocks_long at.At-loop-count) _ (cells_is at.At-loop-count) _ _ _ _ c.release_page-released.ensures
+    passing-turn _ _ _ _ _ _ _ _ _ _ _ _ _ _ c.loop-count.invariant c.loop-count-test.true (some-held at.Joined-else-window-eq0) _ (first-is at.At-loop-count _ c.in-Some.ensures.first)
+    (page-lt at.In-Some) (blocks_long at.At-loop-count) _ (cells_is at.At-loop-count) _ _ _ _ c.release_page-released.ensures
     c.requires.window_size_bound.3
 
 pub returns-after-loop-count : goal.returns-after-loop-count
