@@ -10,7 +10,7 @@ use Rattle.model.specs.Window.{decode, live_at, stands_at}
 use Rattle.model.specs.Steps.{window_answer}
 use Rattle.model.specs.Sound.{Sound}
 use Rattle.page_base.specs.declared.PageWords.{PageWords}
-use Rattle.page_base.specs.declared.find.Read.{Read}
+
 use Rattle.page_base.specs.Page.{words_at, part_of, page, Placed}
 use Rattle.page_base.specs.Promises.{read_answer_of, read_of, Reads}
 use Rattle.page_base.proofs.LiveLaws.{page-placed, live-none, live-is}
