@@ -1,9 +1,10 @@
 -- The live sequences of one page, over plain variables: the mask of a sparse page by a pass over its cells, and what a run over cells or
 -- over the mask says of what stands at the positions. Assumes nothing.
 use Rattle.std.proofs.Common.{◌≡◌, ℕ, ◌+◌, ◌-◌, ◌*◌, ◌%◌, ◌^◌, ◌<◌, ◌≤◌, true, false, List, get_or, sym, ap, ◌∙◌, arith, eq-eqb}
+use borrow.Author.Tests.{eqb-false}
 use native.Mathlib.Decide.{ℕ_discrete}
 use Rattle.words.proofs.CaseLaws.{bool}
-use Rattle.words.specs.Word.{bit_at, set_bit, lowest}
+use Rattle.words.specs.Word.{bit_at, is_set, set_bit, lowest}
 use Rattle.words.proofs.BitLaws.{bit-lt, bit-none, bit_not}
 use Rattle.words.proofs.ChangeLaws.{with-same, with-other}
 use Rattle.words.proofs.LowestLaws.{Lowest, lowest-is}
@@ -16,6 +17,10 @@ use Rattle.page_base.proofs.PlaceLaws.{few-cells}
 use Rattle.page_base.proofs.StandLaws.{stands-cell, stands-none}
 use Rattle.page_base.proofs.ReadLaws.{found-cell}
 use Rattle.acknowledge.specs.Promises.{InRow, DenseRun, Masks, Runs}
+
+-- a bit that is not set is 0
+clear-bit : (w k : ℕ) → is_set w k ≡ false → bit_at w k ≡ 0
+clear-bit w k e = omega (arith, eqb-false _ _ e, bit-lt w k)
 
 -- ---- the cells of a dense page
 
@@ -138,12 +143,12 @@ module _ (n : ℕ) (w : PageWords) (ss vs : List ℕ) (ok : Placed n (page w ss 
 
 module _ (n : ℕ) (w : PageWords) (ss : List ℕ) (slot row : ℕ) (l : slot < 64) where
   -- nothing stands at the first position
-  pub run_none : bit_at w.occupied slot ≡ 0 → Runs n w ss slot row slot
+  pub run_none : is_set w.occupied slot ≡ false → Runs n w ss slot row slot
   run_none z = record {
     from = omega arith;
     top = omega arith;
     live = λ vs ok j a b. absurd (omega arith);
-    missed = λ vs ok h. ap (finds (64 * row + slot)) (stands-none n (page w ss vs) ok slot z);
+    missed = λ vs ok h. ap (finds (64 * row + slot)) (stands-none n (page w ss vs) ok slot (clear-bit w.occupied slot z));
   }
 
   pub run-dense : (r : ℕ) → w.kind ≡ 2 → DenseRun ss w.filled slot row r → Runs n w ss slot row r

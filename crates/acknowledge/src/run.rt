@@ -3,7 +3,7 @@
 ghost use Rattle.std.specs.Prelude.{◌≡◌, ◌<◌, ◌≤◌, length};
 ghost use Rattle.acknowledge.specs.Promises.{DenseRun, Masks, Runs, StandsIn};
 
-use page_base::PageWords;
+use page_base::{DENSE, PageWords};
 use window::memory::PAGE_SLOTS;
 
 // Of a dense page, whose values are at their own positions.
@@ -40,16 +40,13 @@ pub fn page_run(sequences: &[u32], w: PageWords, n: usize, slot: usize, row: u32
     requires { (length sequences.now ≡ 64) × (n < 64) × (slot < 64) }
     ensures { Runs n w sequences.now slot row result }
 {
-    let kind = w.kind;
-    let occupied = w.occupied;
-    let filled = w.filled;
-    if !words::bit(occupied, slot) {
+    if !words::bit(w.occupied, slot) {
         return slot;
     }
-    if kind == 2 {
-        return dense_run(sequences, filled, slot, row);
+    if w.kind == DENSE {
+        return dense_run(sequences, w.filled, slot, row);
     }
-    words::lowest(!row_mask(sequences, filled, n, row), slot)
+    words::lowest(!row_mask(sequences, w.filled, n, row), slot)
 }
 
 // Bit j: the sequence asked for stands at position j.
@@ -57,13 +54,9 @@ pub fn page_mask(sequences: &[u32], w: PageWords, n: usize, row: u32) -> u64
     requires { (length sequences.now ≡ 64) × (n < 64) }
     ensures { StandsIn n w sequences.now row result }
 {
-    let kind = w.kind;
-    let filled = w.filled;
-    if filled == 0 {
+    if w.filled == 0 {
         return 0;
     }
-    if kind == 2 {
-        return row_mask(sequences, filled, PAGE_SLOTS, row);
-    }
-    row_mask(sequences, filled, n, row)
+    let cells = if w.kind == DENSE { PAGE_SLOTS } else { n };
+    row_mask(sequences, w.filled, cells, row)
 }

@@ -1,9 +1,6 @@
 use Rattle.std.proofs.Common.{arith}
-use Rattle.acknowledge.proofs.StepLaws.{pass-none, pass_all, pass-end, pass-stop, pass_on}
+use Rattle.acknowledge.proofs.StepLaws.{pass_all, pass-end, pass-stop, pass_on}
 use Rattle.acknowledge.proofs.advance.Goals as goal
-
-pub loop-d-init : goal.loop-d-init
-loop-d-init c = pass-none _ _ _ _ _ _ (omega arith)
 
 pub returns-then-size-next : goal.returns-then-size-next
 returns-then-size-next c = pass-end _ _ _ _ _ _ _ _ _ c.loop-d.invariant c.sequence_at-sequence.ensures c.live_run-end.ensures c.if-size-next.true

@@ -1,16 +1,10 @@
-use Rattle.std.proofs.Common.{sym, ◌∙◌, arith, eqb-true}
-use mathlib.Core.Bool.{false≢true}
+use Rattle.std.proofs.Common.{sym, ◌∙◌, eqb-true}
 use borrow.Author.Tests.{eqb-false}
 use Rattle.window.specs.Memory.{memory}
-use Rattle.window.proofs.RefusalLaws.{wire-yes, wire-no}
+use Rattle.window.proofs.RefusalLaws.{wire-yes}
 use Rattle.model.specs.Window.{decode, live_at}
 use Rattle.laws_acknowledge.proofs.AdvanceLaws.{point-advance}
 use Rattle.acknowledge.proofs.is_current.Goals as goal
-
-pub returns-then-not-is_wire_number : goal.returns-then-not-is_wire_number
-returns-then-not-is_wire_number c =
-    let high = wire-no c.args.w.base _ c.is_wire_number.ensures c.if-not-is_wire_number.true in
-    record { is = λ vs ok. record { holds = λ q. absurd (false≢true q); fails = λ q a. omega (arith, a.0, high) } }
 
 pub returns : goal.returns
 returns c =
