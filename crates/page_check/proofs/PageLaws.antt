@@ -1,6 +1,5 @@
--- Whether a page is sound, from its words and from its cells in use, over plain variables. Assumes nothing.
+-- A page of kind 0: whether it is sound, over plain variables. Assumes nothing.
 use mathlib.Core.Path.{◌≡◌, ap}
-use mathlib.Core.Bool.{Bool}
 use mathlib.Core.List.{List}
 use Prim.Native.Nat.{ℕ, ◌^◌, ◌≤◌, ◌<◌}
 use native.Mathlib.Omega.{arith}
@@ -14,14 +13,6 @@ use Rattle.page_check.specs.Promises.{Decides, SoundCells}
 use Rattle.page_check.proofs.DecideLaws.{decides-same, decides_eq}
 
 module _ (n cap g : ℕ) (w : PageWords) (ss vs : List ℕ) where
-  cells_of : SoundPage n cap g (page w ss vs) → SoundCells n cap g w (cells ss)
-  cells_of ok = record {
-    cell = λ c l u. record { wire = ok.wire c l u; here = ok.here c l u; sparse = λ k. ok.sparse k c l u; dense = λ k. ok.dense_cells k c l u };
-    named = ok.named;
-    filled_by = ok.filled_by;
-    once = ok.once;
-  }
-
   module _ (occupied_fits : w.occupied < 2 ^ 64) (filled_fits : w.filled < 2 ^ 64) where
     page-of : SoundCells n cap g w (cells ss) → w.kind ≤ 2 → (w.kind ≡ 0 → w.occupied ≡ 0) → (w.kind ≡ 0 → w.filled ≡ 0)
         → ((w.kind ≡ 0 → ⊥) → w.occupied ≡ 0 → ⊥) → (w.kind ≡ 2 → w.filled ≡ w.occupied) → SoundPage n cap g (page w ss vs)
@@ -58,9 +49,3 @@ module _ (n cap g : ℕ) (w : PageWords) (ss vs : List ℕ) where
           filled_by = λ j l b. absurd (omega (arith, b, ap (λ (x : ℕ). bit_at x j) o, bit-none j));
           once = λ c d l m u. absurd (unused e c u);
         }
-
-    -- the other kinds, whose words are as they must be
-    pub cells-decide : (r : Bool) → (w.kind ≡ 0 → ⊥) → w.kind ≤ 2 → (w.occupied ≡ 0 → ⊥) → (w.kind ≡ 2 → w.filled ≡ w.occupied)
-        → Decides (SoundCells n cap g w (cells ss)) r → Decides (SoundPage n cap g (page w ss vs)) r
-    cells-decide r k kinds o dense d =
-        decides-same r d (λ ok. page-of ok kinds (λ z. absurd (k z)) (λ z. absurd (k z)) (λ _. o) dense) cells_of
