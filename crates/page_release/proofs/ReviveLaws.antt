@@ -109,38 +109,34 @@ module _ (h : AdaptiveReceiverPacketWindow) (n : ℕ) (ss vs pages blocks l : Li
     revival marked e retired = after-split v g retired marked (marked-is ∙ e)
 
   -- a page without a mark once its block is split: nothing to hand back
-  pub revived-empty : bit_at c.block.retired (g % 64) ≡ 0
+  pub revived-empty : is_set c.block.retired (g % 64) ≡ false
       → Revives h n ss vs pages blocks l g (record { window = c.window; count = 0; sound = true }) pages blocks₁ l
-  revived-empty e =
-      let unmarked : is_set c.block.retired (g % 64) ≡ false = ne_eqb (bit_at c.block.retired (g % 64)) 1 (λ q. omega (arith, q, e)) in
-      record {
-        within = put-within;
-        wrote = record { before = refl; past = refl; long = refl };
-        few = omega arith;
-        sound = λ i. refl;
-        gives = λ i retired. split-read i ∙ sym (ap (λ (y : Returned). y.after) (revival i false unmarked retired));
-        out = λ i retired. sym (ap (λ (y : Returned). y.out) (revival i false unmarked retired));
-      }
+  revived-empty unmarked = record {
+    within = put-within;
+    wrote = record { before = refl; past = refl; long = refl };
+    few = omega arith;
+    sound = λ i. refl;
+    gives = λ i retired. split-read i ∙ sym (ap (λ (y : Returned). y.after) (revival i false unmarked retired));
+    out = λ i retired. sym (ap (λ (y : Returned). y.out) (revival i false unmarked retired));
+  }
 
   -- a page with a mark: what it holds is handed back
-  pub revived-marked : (r : PageReleased) (pages' blocks' l' : List ℕ) → (bit_at c.block.retired (g % 64) ≡ 0 → ⊥)
+  pub revived-marked : (r : PageReleased) (pages' blocks' l' : List ℕ) → is_set c.block.retired (g % 64) ≡ true
       → ReleasesPage c.window n ss vs pages blocks₁ l g 0 64 r pages' blocks' l' → Revives h n ss vs pages blocks l g r pages' blocks' l'
-  revived-marked r pages' blocks' l' e t =
-      let marked : is_set c.block.retired (g % 64) ≡ true = eq-eqb (bit_at c.block.retired (g % 64)) 1 (omega (arith, e, bit-lt c.block.retired (g % 64))) in
-      record {
-        within = record {
-          pages_long = t.within.pages_long;
-          blocks_long = t.within.blocks_long ∙ put-within.blocks_long;
-          pages_past = t.within.pages_past;
-          blocks_past = λ k m. t.within.blocks_past k m ∙ put-within.blocks_past k m;
-        };
-        wrote = t.wrote;
-        few = t.few;
-        sound = λ i. t.sound (split-inside i);
-        gives = λ i retired.
-            t.gives (split-inside i) ∙ ap (λ (y : Window). (release_page_of y g 64).after) (split-read i)
-            ∙ sym (ap (λ (y : Returned). y.after) (revival i true marked retired));
-        out = λ i retired.
-            t.out (split-inside i) ∙ ap (λ (y : Window). (release_page_of y g 64).out) (split-read i)
-            ∙ sym (ap (λ (y : Returned). y.out) (revival i true marked retired));
-      }
+  revived-marked r pages' blocks' l' marked t = record {
+    within = record {
+      pages_long = t.within.pages_long;
+      blocks_long = t.within.blocks_long ∙ put-within.blocks_long;
+      pages_past = t.within.pages_past;
+      blocks_past = λ k m. t.within.blocks_past k m ∙ put-within.blocks_past k m;
+    };
+    wrote = t.wrote;
+    few = t.few;
+    sound = λ i. t.sound (split-inside i);
+    gives = λ i retired.
+        t.gives (split-inside i) ∙ ap (λ (y : Window). (release_page_of y g 64).after) (split-read i)
+        ∙ sym (ap (λ (y : Returned). y.after) (revival i true marked retired));
+    out = λ i retired.
+        t.out (split-inside i) ∙ ap (λ (y : Window). (release_page_of y g 64).out) (split-read i)
+        ∙ sym (ap (λ (y : Returned). y.out) (revival i true marked retired));
+  }

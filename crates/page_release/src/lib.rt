@@ -7,13 +7,14 @@ ghost use Rattle.page_release.specs.Promises.{settled_words, ReleasesPage, Reviv
 
 use block_marks::marks::split_retired_block;
 use block_marks::{block_words, put_block_words};
-use page_base::{PageWords, page_cells, page_words};
+use page_base::{NONE, PageWords, page_cells, page_words};
 use page_remove::drain::drain;
 use page_store::store::store_released;
 use window::AdaptiveReceiverPacketWindow;
 use window::memory::PAGE_SLOTS;
 
 // The header after values of a page were handed back, how many they were, and whether each occupied position met had a cell.
+// `sound` is a flag beside them, and no Result around them, since what was handed back before is told on an unsound page too.
 #[derive(Clone, Copy)]
 pub struct PageReleased {
     pub window: AdaptiveReceiverPacketWindow,
@@ -22,12 +23,13 @@ pub struct PageReleased {
 }
 
 // An emptied page gets kind 0 and empty words.
+#[tactic(auto, unfolding(crate::specs::Promises::settled_words))]
 fn unless_emptied(words: PageWords) -> PageWords
     ensures { result ≡ settled_words words }
 {
     if words.occupied == 0 {
         return PageWords {
-            kind: 0,
+            kind: NONE,
             occupied: 0,
             filled: 0,
         };
@@ -63,12 +65,11 @@ pub fn release_page(
         at,
         limit,
     );
-    let count = d.count;
     let left = unless_emptied(d.words);
-    let window = store_released(w, pages, blocks, page, left, count as u32);
+    let window = store_released(w, pages, blocks, page, left, d.count as u32);
     PageReleased {
         window,
-        count,
+        count: d.count,
         sound: d.sound,
     }
 }
@@ -93,7 +94,7 @@ pub fn revive(
     let window = change.window;
     let kept = change.block;
     put_block_words(blocks, block, kept);
-    if words::bit(kept.retired, page % 64) == 0 {
+    if !words::bit(kept.retired, page % 64) {
         return PageReleased {
             window,
             count: 0,

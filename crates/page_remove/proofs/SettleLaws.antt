@@ -5,7 +5,7 @@ use mathlib.Core.List.{List}
 use Prim.Native.Nat.{ℕ, ◌%◌, ◌≤◌, ◌<◌}
 use native.Mathlib.Omega.{arith}
 use lib.Dec.{eqb}
-use borrow.Author.Tests.{eq-eqb, ne_eqb, le-leb, lt-leb}
+use borrow.Author.Tests.{eq-eqb, ne_eqb, le-leb}
 use Rattle.words.proofs.CaseLaws.{bool}
 use Rattle.words.proofs.CountLaws.{count_none}
 use Rattle.words.specs.Word.{clear_bit, count}
@@ -43,16 +43,6 @@ module _ (d : ℕ) (p : Page) where
   settle-demoted n e k o l =
       rw (eq-eqb p.kind 2 k, ne_eqb p.occupied 0 o, le-leb (count p.occupied) d (omega arith))
       (ap (λ (x : ℕ). settled (packed p) x true) (e ∙ ap count (sym (packed-occupied p))))
-
-  pub settle-full : (n : ℕ) → n ≡ count p.occupied → (p.occupied ≡ 0 → ⊥) → d < n → settled p n false ≡ settle_page_of d p
-  settle-full n e o l =
-      let same = ap (λ (x : ℕ). settled p x false) e in
-      bool (eqb p.kind 2)
-      (λ k. rw (k, ne_eqb p.occupied 0 o, lt-leb (count p.occupied) d (omega arith)) same)
-      (λ k. rw (k, ne_eqb p.occupied 0 o) same)
-
-  pub settle-sparse : (n : ℕ) → n ≡ count p.occupied → (p.occupied ≡ 0 → ⊥) → (p.kind ≡ 2 → ⊥) → settled p n false ≡ settle_page_of d p
-  settle-sparse n e o k = rw (ne_eqb p.kind 2 k, ne_eqb p.occupied 0 o) (ap (λ (x : ℕ). settled p x false) e)
 
   -- the sequence is in cell c
   pub remove-found : (s c v : ℕ) (r : SettledPage) → c ≡ cell_with p s → c < 64 → v ≡ p.values c → r ≡ settle_page_of d (take_cell_of p c)

@@ -64,11 +64,7 @@ fn fewer_held(w: AdaptiveReceiverPacketWindow, count: u32) -> AdaptiveReceiverPa
     ensures { result ≡ set_held w (w.retired_held - count) }
 {
     let mut window = w;
-    if count <= w.retired_held {
-        window.retired_held = w.retired_held - count;
-    } else {
-        window.retired_held = 0;
-    }
+    window.retired_held = w.retired_held.saturating_sub(count);
     window
 }
 
