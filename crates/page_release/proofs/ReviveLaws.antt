@@ -8,7 +8,6 @@ use lib.ListN.{length, drop}
 use borrow.Author.Tests.{eq-eqb, ne_eqb}
 use Rattle.words.proofs.CaseLaws.{bool}
 use Rattle.words.specs.Word.{bit_at, is_set, clear_bit}
-use Rattle.words.proofs.BitLaws.{bit-lt}
 use Rattle.words.proofs.ChangeLaws.{with-same}
 use Rattle.window.specs.declared.AdaptiveReceiverPacketWindow.{AdaptiveReceiverPacketWindow}
 use Rattle.window.specs.Memory.{memory, block_count_of, words_per_block}

@@ -11,7 +11,7 @@ drain-d-requires c = (
   c.requires.row_in.3,
 )
 
-pub overflow_cast-d : goal.overflow_cast-window
+pub overflow_cast-d : goal.overflow_cast-d
 overflow_cast-d c = omega (arith, c.drain-d.ensures.few, c.requires.row_in.2)
 
 pub store_released-window-requires : goal.store_released-window-requires

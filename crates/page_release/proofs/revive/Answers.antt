@@ -1,4 +1,4 @@
-use mathlib.Core.Path.{sym, ◌∙◌}
+use mathlib.Core.Path.{sym}
 use Rattle.page_release.proofs.ReviveLaws.{revived-empty, revived-marked}
 use Rattle.page_release.proofs.revive.Goals as goal
 
