@@ -1,23 +1,20 @@
 -- The point and the base after insert, exchange, remove, take_front and set_base, over plain variables: how each call meets its
 -- contract. Assumes nothing.
 use mathlib.Core.Path.{◌≡◌, refl, sym, ap, subst, ◌∙◌}
-use mathlib.Core.Bool.{Bool, true, false, true≢false}
+use mathlib.Core.Bool.{Bool, true, false}
 use mathlib.Core.Option.{Option, none, some}
-use mathlib.Core.List.{List, [], ◌∷◌}
+use mathlib.Core.List.{List, []}
 use Prim.Native.Nat.{ℕ}
 use native.Mathlib.Omega.{arith}
-use denote.Enum.Declared.{tag_of}
-use types.Run.{OneOf, miss}
 use lib.Dec.{eqb}
 use lib.ListN.{length}
+use Rattle.std.specs.Prelude.{Ok}
 use Rattle.words.proofs.CaseLaws.{bool}
 use Rattle.window.specs.declared.AdaptiveReceiverPacketWindow.{AdaptiveReceiverPacketWindow}
-use Rattle.window.specs.declared.answers.Answer.{Answer}
-use Rattle.window.specs.declared.answers.Answer.TheVariants.{Done, New, Replaced, Absent, Found, Pair, Ended, Released, Refused}
+use Rattle.window.specs.declared.answers.Answer.TheVariants.{Done}
 use Rattle.window.specs.declared.answers.Outcome.{Outcome}
 use Rattle.window.specs.declared.answers.Step.{Step}
 use Rattle.window.specs.Memory.{Memory}
-use Rattle.window.specs.contracts.answers.Answer as enum
 use Rattle.model.specs.Calls.{Call, insert, exchange, remove, set_base, take_front, done, refused}
 use Rattle.model.specs.Table as table
 use Rattle.model.specs.Table.{Table, finds, value_if, sequence_at_of, argument_refusal}
@@ -36,66 +33,6 @@ use Rattle.acknowledge.specs.Promises as acknowledge
 use Rattle.acknowledge.specs.Promises.{with_sizes_of, MovesBase}
 use Rattle.acknowledge.proofs.ActLaws.{proper, left-window, left-sound, same-sizes, works-acts, still-acts}
 use Rattle.call_point.specs.Promises.{is_found, KeepsInserted, KeepsTaken, MovesFront}
-
--- ---- steps: the point of step x, where its answer says that the call moved it
-
-module _ (w : AdaptiveReceiverPacketWindow) (ss pages blocks : List ℕ) (s : ℕ) (x : Step) where
-  pub new-kept : (r : AdaptiveReceiverPacketWindow) → x.answer.answer ≡ New → acknowledge.Inserts (with_sizes_of x.window w) ss pages blocks x.window s r
-      → KeepsInserted w ss pages blocks s x (record { window = r; answer = x.answer })
-  new-kept r a i = record {
-    outcome = refl;
-    new = λ t. i;
-    old = λ t. absurd (true≢false (sym (ap (λ (y : Result Answer Refusal). is_new (answer_of y)) a) ∙ t));
-  }
-
-  pub old-kept : is_new (answer_of x.answer.answer) ≡ false → KeepsInserted w ss pages blocks s x x
-  old-kept e = record { outcome = refl; new = λ t. absurd (true≢false (sym t ∙ e)); old = λ t. refl }
-
--- past the pattern `New` no value is new
-pub not_new : (a : Result Answer Refusal) → OneOf (0 ∷ 2 ∷ 3 ∷ 4 ∷ 5 ∷ 6 ∷ 7 ∷ 8 ∷ []) (tag_of enum.the_type a) → is_new (answer_of a) ≡ false
-not_new Done t = refl
-not_new New t = absurd (miss (0 ∷ 2 ∷ 3 ∷ 4 ∷ 5 ∷ 6 ∷ 7 ∷ 8 ∷ []) 1 tt t)
-not_new (Replaced v) t = refl
-not_new Absent t = refl
-not_new (Found n) t = refl
-not_new (Pair s v next reads) t = refl
-not_new (Ended reads) t = refl
-not_new (Released values units) t = refl
-not_new (Refused why) t = refl
-
--- and past `Found` none was found
-pub not_found : (a : Result Answer Refusal) → OneOf (0 ∷ 1 ∷ 2 ∷ 3 ∷ 5 ∷ 6 ∷ 7 ∷ 8 ∷ []) (tag_of enum.the_type a) → is_found (answer_of a) ≡ false
-not_found Done t = refl
-not_found New t = refl
-not_found (Replaced v) t = refl
-not_found Absent t = refl
-not_found (Found n) t = absurd (miss (0 ∷ 1 ∷ 2 ∷ 3 ∷ 5 ∷ 6 ∷ 7 ∷ 8 ∷ []) 4 tt t)
-not_found (Pair s v next reads) t = refl
-not_found (Ended reads) t = refl
-not_found (Released values units) t = refl
-not_found (Refused why) t = refl
-
-pub found-taken : (s : ℕ) (x : Step) (v : ℕ) (r : AdaptiveReceiverPacketWindow) → x.answer.answer ≡ Found v
-    → r ≡ set_point x.window (after_remove_of x.window.base x.window.point s true) → KeepsTaken s x (record { window = r; answer = x.answer })
-found-taken s x v r a e = record {
-  outcome = refl;
-  window = e ∙ ap (λ (y : Result Answer Refusal). set_point x.window (after_remove_of x.window.base x.window.point s (is_found (answer_of y)))) (sym a);
-}
-
-pub none-taken : (s : ℕ) (x : Step) → is_found (answer_of x.answer.answer) ≡ false → KeepsTaken s x x
-none-taken s x e = record { outcome = refl; window = ap (λ (b : Bool). set_point x.window (after_remove_of x.window.base x.window.point s b)) (sym e) }
-
-module _ (w : AdaptiveReceiverPacketWindow) (ss pages blocks : List ℕ) (x : Step) where
-  pub found-moves : (v next : ℕ) (r : AdaptiveReceiverPacketWindow) → x.answer.answer ≡ Found v → next ≡ sequence_at_of w.base 1
-      → MovesBase (with_sizes_of x.window w) ss pages blocks x.window next r → MovesFront w ss pages blocks x (record { window = r; answer = x.answer })
-  found-moves v next r a n i = record {
-    outcome = refl;
-    found = λ t. subst (λ (y : ℕ). MovesBase (with_sizes_of x.window w) ss pages blocks x.window y r) n i;
-    absent = λ t. absurd (true≢false (sym (ap (λ (y : Result Answer Refusal). is_found (answer_of y)) a) ∙ t));
-  }
-
-  pub absent-moves : is_found (answer_of x.answer.answer) ≡ false → MovesFront w ss pages blocks x x
-  absent-moves e = record { outcome = refl; found = λ t. absurd (true≢false (sym t ∙ e)); absent = λ t. refl }
 
 -- ---- exchange
 
@@ -258,7 +195,7 @@ module _ (w : AdaptiveReceiverPacketWindow) (m : Memory) (x : Step) (m' : Memory
 
 pub base-acts : (s : ℕ) (w : AdaptiveReceiverPacketWindow) (m : Memory) (h : AdaptiveReceiverPacketWindow)
     → argument_refusal (known_by (window_of (state_of w m)).header) (set_base s) ≡ 0 → MovesBase w m.sequences m.pages m.blocks w s h
-    → Acts (set_base s) (state_of w m) [] (left_of (replied h Done) m [])
+    → Acts (set_base s) (state_of w m) [] (left_of (replied h (Ok Done)) m [])
 unfolding decode window_does
 base-acts s w m h z k =
     let v = decode w m in

@@ -1,10 +1,9 @@
 -- insert, over plain variables: the page is made live, and then the insert is one into a live page; k is what `reachable` says of
 -- the page. Assumes nothing.
 use mathlib.Core.Path.{◌≡◌, sym, ap, ◌∙◌, subst}
-use mathlib.Core.Bool.{Bool}
+use mathlib.Core.Bool.{Bool, true, false}
 use mathlib.Core.List.{List}
 use Prim.Native.Nat.{ℕ, ◌/◌, ◌≤◌}
-use native.Mathlib.Decide.{ℕ_discrete}
 use native.Mathlib.Omega.{arith}
 use lib.ListN.{length}
 use Rattle.words.proofs.CaseLaws.{bool}
@@ -25,7 +24,7 @@ use Rattle.call_point.proofs.InsertLaws.{retired-admitted, live-admitted}
 pub few-made : (h : AdaptiveReceiverPacketWindow) (n : ℕ) (m : Memory) (l : List ℕ) (g : ℕ) (k : Bool) (x : PageReleased) (m₁ : Memory) (l₁ : List ℕ)
     → MakesLive h n m l g k x m₁ l₁ → x.count ≤ 64
 few-made h n m l g k x m₁ l₁ t =
-    elim (ℕ_discrete k 0) [ yes z ↦ (t.revived z).few | no z ↦ omega (arith, ap (λ (y : PageReleased). y.count) (t.live z).0) ]
+    bool k (λ n. omega (arith, ap (λ (y : PageReleased). y.count) (t.live n).0)) (λ z. (t.revived z).few)
 
 -- x is what making the page live gave, pages₁, blocks₁ and l₁ the words and the return list afterwards
 module _ (h : AdaptiveReceiverPacketWindow) (m : Memory) (fit : FitsIn h m) (s p : ℕ) (k : Bool)
@@ -64,7 +63,4 @@ module _ (h : AdaptiveReceiverPacketWindow) (m : Memory) (fit : FitsIn h m) (s p
 
   pub entered-admitted : Admitted (insert s v listed) (state_of h m) l (left_of r m' l₁)
   entered-admitted =
-      elim (ℕ_discrete k 0) [
-        | yes z ↦ retired-admitted h m fit s p k e reach v listed l long r m' l₁ z (revives z)
-        | no z ↦ enters-live z
-      ]
+      bool k enters-live (λ z. retired-admitted h m fit s p k e reach v listed l long r m' l₁ z (revives z))

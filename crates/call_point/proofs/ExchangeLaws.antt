@@ -1,15 +1,17 @@
 -- exchange, over plain variables. Assumes nothing.
 use mathlib.Core.Path.{◌≡◌, refl, sym, ap, ◌∙◌, subst}
-use mathlib.Core.Bool.{true≢false}
+use mathlib.Core.Bool.{Bool, true, false, true≢false}
 use mathlib.Core.List.{List, []}
 use Prim.Native.Nat.{ℕ, ◌+◌, ◌*◌, ◌-◌, ◌/◌, ◌%◌, ◌≤◌}
 use lib.ListN.{length, take, drop}
+use Rattle.std.specs.Prelude.{Option, None, Some, Result, Ok}
 use borrow.Rule.Slice.PartMut.{put_mid}
 use Rattle.words.proofs.CaseLaws.{bool}
 use Rattle.window.specs.declared.AdaptiveReceiverPacketWindow.{AdaptiveReceiverPacketWindow}
 use Rattle.window.specs.declared.answers.Answer.{Answer}
 use Rattle.window.specs.declared.answers.Answer.TheVariants.{Absent}
 use Rattle.window.specs.declared.answers.Step.{Step}
+use Rattle.window.specs.declared.refusals.Refusal.{Refusal}
 use Rattle.window.specs.Memory.{Memory, memory, position}
 use Rattle.model.specs.Calls.{exchange, refused, absent}
 use Rattle.model.specs.Table.{value_if, finds}

@@ -1,11 +1,12 @@
 -- The page of a sequence, over plain variables: inside the lists, and live or retired as `reachable` says. Assumes nothing.
 use mathlib.Core.Path.{◌≡◌, refl, sym, ap, ◌∙◌, subst}
 use mathlib.Core.Bool.{Bool, true, false, true≢false}
-use mathlib.Core.Option.{Option}
+use mathlib.Core.Option.{none}
 use mathlib.Core.List.{[]}
 use Prim.Native.Nat.{ℕ, ◌+◌, ◌*◌, ◌/◌, ◌%◌, ◌≤◌, ◌<◌}
 use native.Mathlib.Omega.{arith}
 use lib.ListN.{length}
+use Rattle.std.specs.Prelude.{Ok}
 use Rattle.window.specs.declared.AdaptiveReceiverPacketWindow.{AdaptiveReceiverPacketWindow}
 use Rattle.window.specs.declared.answers.Answer.TheVariants.{Absent}
 use Rattle.window.specs.declared.answers.Step.{Step}
@@ -78,7 +79,7 @@ module _ (h : AdaptiveReceiverPacketWindow) (m : Memory) (fit : FitsIn h m) (s p
   slot = ap (λ (x : ℕ). x % 64) e ∙ position-slot h.window_size s
 
   -- nothing is found on a retired page
-  pub gone : k ≡ false → Sound (decode h m) → live_at (decode h m) (position h.window_size s) ≡ Option.none
+  pub gone : k ≡ false → Sound (decode h m) → live_at (decode h m) (position h.window_size s) ≡ none
   gone z ok = ap (live_at (decode h m)) (sym e) ∙ live-none h m p (unreachable h m ok (p / 64) below k reach z)
 
   -- on a live one it is what stands there

@@ -1,11 +1,13 @@
 -- remove, over plain variables. Assumes nothing.
 use mathlib.Core.Path.{◌≡◌, refl, sym, ap, ◌∙◌, subst}
 use mathlib.Core.Bool.{Bool, true, false, true≢false}
-use mathlib.Core.Option.{Option, none, some}
+use mathlib.Core.Option as table
+use mathlib.Core.Option.{none, some}
 use mathlib.Core.List.{List, []}
 use Prim.Native.Nat.{ℕ, ◌+◌, ◌*◌, ◌-◌, ◌/◌, ◌%◌, ◌≤◌, ◌<◌}
 use lib.Dec.{eqb}
 use lib.ListN.{length, take, drop}
+use Rattle.std.specs.Prelude.{Option, None, Some, Ok}
 use borrow.Rule.Slice.PartMut.{put_mid}
 use Rattle.words.proofs.CaseLaws.{bool}
 use Rattle.window.specs.declared.AdaptiveReceiverPacketWindow.{AdaptiveReceiverPacketWindow}
@@ -67,11 +69,11 @@ is_found (model.ended reads) = false
 is_found (model.released values units) = false
 is_found (model.refused k) = false
 
-not_found : (s : ℕ) (o : Option Pair) → value_if s o ≡ absent → finds s o ≡ false
+not_found : (s : ℕ) (o : table.Option Pair) → value_if s o ≡ absent → finds s o ≡ false
 not_found s none a = refl
 not_found s (some q) a = bool (eqb q.sequence s) (λ t. absurd (true≢false (rw t at (ap is_found a)))) (λ t. t)
 
-is_found_lem : (s v : ℕ) (o : Option Pair) → value_if s o ≡ found v → finds s o ≡ true
+is_found_lem : (s v : ℕ) (o : table.Option Pair) → value_if s o ≡ found v → finds s o ≡ true
 is_found_lem s v none a = absurd (true≢false (sym (ap is_found a)))
 is_found_lem s v (some q) a = bool (eqb q.sequence s) (λ t. t) (λ t. absurd (true≢false (sym (rw t at (ap is_found a)))))
 
@@ -169,7 +171,7 @@ module _ (h : AdaptiveReceiverPacketWindow) (m : Memory) (fit : FitsIn h m) (s p
             ∙ (λ j. after_remove_of (with_page (decode h m) g (is_removed ok j).page) g Single (is_removed ok j).left.demoted 1)
             ∙ sym (step-found ok (is_found_lem s v (stands_at here (s % 64)) (sym (answered ok) ∙ ap read_answer_of a)))
 
-      left : (y : Read) → x.answer ≡ y → Sound (decode h m) → decode r.window (memory ss vs pages blocks) ≡ (remove_step (decode h m) s).after
+      left : (y : Option ℕ) → x.answer ≡ y → Sound (decode h m) → decode r.window (memory ss vs pages blocks) ≡ (remove_step (decode h m) s).after
       left None a ok = left-absent a ok
       left (Some v) a ok = left-found v a ok
 

@@ -1,18 +1,16 @@
 -- An insert into a retired page, over plain variables: it is revived, and then the insert is one into a live page. Assumes nothing.
-use mathlib.Core.Path.{◌≡◌, refl, sym, ap, ◌∙◌, subst}
-use mathlib.Core.Bool.{Bool, true, false, true≢false}
-use mathlib.Core.List.{List, [], ◌∷◌}
+use mathlib.Core.Path.{◌≡◌, sym, ap, ◌∙◌, subst}
+use mathlib.Core.Bool.{true, false, true≢false}
+use mathlib.Core.List.{List}
 use Prim.Native.Nat.{ℕ, ◌+◌, ◌*◌, ◌%◌, ◌≤◌, ◌<◌}
 use native.Mathlib.Omega.{arith}
 use lib.ListN.{length}
-use denote.Enum.Declared.{tag_of}
-use types.Run.{OneOf, miss}
-use Rattle.window.specs.contracts.answers.Answer as enum
+use Rattle.std.specs.Prelude.{Result, Err}
 use Rattle.words.specs.Word.{bit_at}
 use Rattle.words.proofs.BitLaws.{bit-none}
 use Rattle.window.specs.declared.AdaptiveReceiverPacketWindow.{AdaptiveReceiverPacketWindow}
 use Rattle.window.specs.declared.answers.Answer.{Answer}
-use Rattle.window.specs.declared.answers.Answer.TheVariants.{Done, New, Replaced, Absent, Found, Pair, Ended, Released, Refused}
+use Rattle.window.specs.declared.answers.Answer.TheVariants.{Done, New, Replaced, Absent, Found, Pair, Ended, Released}
 use Rattle.window.specs.declared.answers.Step.{Step}
 use Rattle.window.specs.declared.refusals.Refusal.{Refusal}
 use Rattle.window.specs.declared.refusals.Refusal.TheVariants.{Unsound}
@@ -35,7 +33,7 @@ use Rattle.page_release.specs.declared.PageReleased.{PageReleased}
 use Rattle.page_release.specs.Promises.{Within, Inside, Revives}
 use Rattle.laws_soundness.proofs.ProperLaws.{proper-decode}
 use Rattle.laws_soundness.proofs.ReviveLaws.{Revived, revive-revives}
-use Rattle.call_base.specs.Answers.{answer_of, number_of, state_of}
+use Rattle.call_base.specs.Answers.{given_of, answer_of, number_of, state_of}
 use Rattle.call_point.specs.Promises.{PageOnly, after_put, Placing, InsertsLive, RevivedAnswer}
 use Rattle.call_point.proofs.WrittenLaws.{same-only}
 use Rattle.call_point.proofs.ReachLaws.{is_refusal}
@@ -174,14 +172,3 @@ module _ (h : AdaptiveReceiverPacketWindow) (m : Memory) (g n s v : ℕ) (l : Li
       gives = λ q ret. i.gives (now-placing q ret) ∙ ap (λ (w : Window). after_put w g (insert_page n (w.pages g) s v)) (there q ret);
       out = λ q ret. ap (λ (k : ℕ). stretch 0 k l₁) many ∙ t.out (inside q) ret;
     }
-
--- ---- the answer on a revived page
-
-pub refused-revived : (a : Result Answer Refusal) (why : Refusal) → a ≡ Err why → RevivedAnswer a (Err Unsound)
-refused-revived a why e = record {
-  taken = λ q. omega (arith, ap number_of q);
-  same = λ q. absurd (true≢false (sym q ∙ ap (λ (x : Result Answer Refusal). is_new (answer_of x)) e));
-}
-
-pub given-revived : (a : Answer) → RevivedAnswer (Ok a) (Ok a)
-given-revived a = record { taken = λ q. gives-none a 4 q; same = λ q. refl }

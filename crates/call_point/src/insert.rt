@@ -8,6 +8,7 @@ ghost use Rattle.call_base.specs.Answers.{MeetsInto};
 ghost use Rattle.call_base.specs.Promises.{AdmittedInto};
 ghost use Rattle.call_point.specs.Promises.{InsertsIn, Keeps, InsertsLive, MakesLive, LiveAnswer, Enters, KeepsInserted};
 
+use crate::is_new;
 use acknowledge::after_insert;
 use call_base::admits::{Arguments, admits};
 use call_base::{reachable, refuse};
@@ -64,27 +65,22 @@ fn keep(
     ensures { Keeps w pages.old blocks.old page r result pages.new blocks.new }
 {
     let words = r.words;
-    let answer = r.answer;
-    match answer {
-        InsertAnswer::New => Put {
+    match r.answer {
+        Ok(InsertAnswer::New) => Put {
             window: store_inserted(w, pages, blocks, page, words, false),
-            answer: Answer::New,
+            answer: Ok(Answer::New),
         },
-        InsertAnswer::Promoted => Put {
+        Ok(InsertAnswer::Promoted) => Put {
             window: store_inserted(w, pages, blocks, page, words, true),
-            answer: Answer::New,
+            answer: Ok(Answer::New),
         },
-        InsertAnswer::Replaced(old) => Put {
+        Ok(InsertAnswer::Replaced(old)) => Put {
             window: w,
-            answer: Answer::Replaced(old),
+            answer: Ok(Answer::Replaced(old)),
         },
-        InsertAnswer::Occupied => Put {
+        Err(why) => Put {
             window: w,
-            answer: Answer::Refused(Refusal::Occupied),
-        },
-        InsertAnswer::Unsound => Put {
-            window: w,
-            answer: Answer::Refused(Refusal::Unsound),
+            answer: Err(why),
         },
     }
 }
@@ -178,12 +174,13 @@ fn enter(
     let put = insert_live(
         window, sequences, values, pages, blocks, page, n, sequence, value,
     );
-    let left = put.window;
     let given = put.answer;
-    let answer = live_answer(given, reach);
     Step {
-        window: left,
-        answer: Outcome { answer, count },
+        window: put.window,
+        answer: Outcome {
+            answer: live_answer(given, reach),
+            count,
+        },
     }
 }
 
@@ -224,13 +221,10 @@ fn keep_point(
     requires { ListsLent w sequences.now pages.now blocks.now }
     ensures { KeepsInserted w sequences.now pages.now blocks.now sequence step result }
 {
-    let left = step.window;
-    let outcome = step.answer;
-    let given = outcome.answer;
-    if let Ok(Answer::New) = given {
+    if is_new(step.answer.answer) {
         return Step {
-            window: after_insert(w, left, sequences, pages, blocks, sequence),
-            answer: outcome,
+            window: after_insert(w, step.window, sequences, pages, blocks, sequence),
+            answer: step.answer,
         };
     }
     step

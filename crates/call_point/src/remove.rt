@@ -7,6 +7,7 @@ ghost use Rattle.call_base.specs.Answers.{MeetsBy};
 ghost use Rattle.call_base.specs.Promises.{AdmittedBy};
 ghost use Rattle.call_point.specs.Promises.{RemovesIn, KeepsRemoved, KeepsTaken};
 
+use crate::is_found;
 use acknowledge::after_remove;
 use call_base::admits::{Arguments, NO_LIST, admits};
 use call_base::{reachable, refuse, reply};
@@ -55,11 +56,13 @@ fn keep_removed(
     requires { (page < 1024) × (RowIn words_per_page page pages.old) × (RowIn words_per_block (page / 64) blocks.old) }
     ensures { KeepsRemoved w pages.old blocks.old page words left read result pages.new blocks.new }
 {
-    if let Some(value) = read {
-        let window = store_removed(w, pages, blocks, page, words, left, Cause::Single, 1);
-        return reply(window, Ok(Answer::Found(value)));
+    match read {
+        Some(value) => {
+            let window = store_removed(w, pages, blocks, page, words, left, Cause::Single, 1);
+            reply(window, Ok(Answer::Found(value)))
+        }
+        None => reply(w, Ok(Answer::Absent)),
     }
-    reply(w, Ok(Answer::Absent))
 }
 
 // Once no refusal applies. Values of a retired page are not found.
@@ -92,13 +95,10 @@ pub fn remove_value(
 fn keep_point(step: Step, sequence: u32) -> Step
     ensures { KeepsTaken sequence step result }
 {
-    let left = step.window;
-    let outcome = step.answer;
-    let given = outcome.answer;
-    if let Ok(Answer::Found(_)) = given {
+    if is_found(step.answer.answer) {
         return Step {
-            window: after_remove(left, sequence),
-            answer: outcome,
+            window: after_remove(step.window, sequence),
+            answer: step.answer,
         };
     }
     step

@@ -5,12 +5,13 @@ ghost use Rattle.model.specs.Calls.{take_front};
 ghost use Rattle.call_base.specs.Answers.{MeetsBy};
 ghost use Rattle.call_point.specs.Promises.{MovesFront};
 
+use crate::is_found;
 use crate::remove::remove_value;
 use acknowledge::after_base;
 use call_base::admits::{Arguments, NO_LIST, admits};
 use call_base::{refuse, sequence_at};
 use window::AdaptiveReceiverPacketWindow;
-use window::answers::{Answer, Step};
+use window::answers::Step;
 
 // The base and the point after the remove of the base of `w`: where it was found, the base moves by one.
 fn move_base(
@@ -23,13 +24,12 @@ fn move_base(
     requires { ListsLent w sequences.now pages.now blocks.now }
     ensures { MovesFront w sequences.now pages.now blocks.now step result }
 {
-    let left = step.window;
     let outcome = step.answer;
     let given = outcome.answer;
-    if let Ok(Answer::Found(_)) = given {
+    if is_found(given) {
         let next = sequence_at(w.base, 1);
         return Step {
-            window: after_base(w, left, sequences, pages, blocks, next),
+            window: after_base(w, step.window, sequences, pages, blocks, next),
             answer: outcome,
         };
     }

@@ -10,14 +10,19 @@ use Rattle.call_point.proofs.exchange.exchange.Goals as goal
 
 pub returns-in-Err : goal.returns-in-Err
 returns-in-Err c =
-    refusal-meets ((exchange c.args.sequence c.args.value)) ((state_of c.args.w (memory c.args.sequences.now c.args.values.now c.args.pages.now c.args.blocks.now))) 384 refl [] _ c.refuse.result c.in-Err.ensures c.refuse.ensures
+    let a = c.args in
+    let u = state_of a.w (memory a.sequences.now a.values.now a.pages.now a.blocks.now) in
+    refusal-meets (exchange a.sequence a.value) u 384 refl [] _ _ c.in-Err.ensures c.refuse.ensures
 
 pub exchange_value-requires : goal.exchange_value-requires
 exchange_value-requires c =
-    admitted-fits ((exchange c.args.sequence c.args.value)) ((state_of c.args.w (memory c.args.sequences.now c.args.values.now c.args.pages.now c.args.blocks.now))) 384 refl c.in-Ok.ensures
+    let a = c.args in
+    let u = state_of a.w (memory a.sequences.now a.values.now a.pages.now a.blocks.now) in
+    admitted-fits (exchange a.sequence a.value) u 384 refl c.in-Ok.ensures
 
 pub returns-in-Ok : goal.returns-in-Ok
 returns-in-Ok c =
-    let z = window-asked ((exchange c.args.sequence c.args.value)) ((state_of c.args.w (memory c.args.sequences.now c.args.values.now c.args.pages.now c.args.blocks.now))) 384 refl c.in-Ok.ensures in
-    admitted-meets ((exchange c.args.sequence c.args.value)) ((state_of c.args.w (memory c.args.sequences.now c.args.values.now c.args.pages.now c.args.blocks.now))) 384 refl c.in-Ok.ensures [] _ refl
-    (exchange-acts c.args.sequence c.args.value ((state_of c.args.w (memory c.args.sequences.now c.args.values.now c.args.pages.now c.args.blocks.now))) [] _ c.exchange_value.ensures z)
+    let a = c.args in
+    let u = state_of a.w (memory a.sequences.now a.values.now a.pages.now a.blocks.now) in
+    admitted-meets (exchange a.sequence a.value) u 384 refl c.in-Ok.ensures [] _ refl
+    (exchange-acts a.sequence a.value u [] _ c.exchange_value.ensures (window-asked (exchange a.sequence a.value) u 384 refl c.in-Ok.ensures))

@@ -10,14 +10,20 @@ use Rattle.call_point.proofs.remove.remove.Goals as goal
 
 pub returns-in-Err : goal.returns-in-Err
 returns-in-Err c =
-    refusal-meets ((remove c.args.sequence)) ((state_of c.args.w (memory c.args.sequences.now c.args.values.now c.args.pages.now c.args.blocks.now))) 384 refl [] _ c.refuse.result c.in-Err.ensures c.refuse.ensures
+    let a = c.args in
+    let u = state_of a.w (memory a.sequences.now a.values.now a.pages.now a.blocks.now) in
+    refusal-meets (remove a.sequence) u 384 refl [] _ _ c.in-Err.ensures c.refuse.ensures
 
 pub remove_value-step-requires : goal.remove_value-step-requires
 remove_value-step-requires c =
-    admitted-fits ((remove c.args.sequence)) ((state_of c.args.w (memory c.args.sequences.now c.args.values.now c.args.pages.now c.args.blocks.now))) 384 refl c.in-Ok.ensures
+    let a = c.args in
+    let u = state_of a.w (memory a.sequences.now a.values.now a.pages.now a.blocks.now) in
+    admitted-fits (remove a.sequence) u 384 refl c.in-Ok.ensures
 
 pub returns-in-Ok : goal.returns-in-Ok
 returns-in-Ok c =
-    let z = window-asked ((remove c.args.sequence)) ((state_of c.args.w (memory c.args.sequences.now c.args.values.now c.args.pages.now c.args.blocks.now))) 384 refl c.in-Ok.ensures in
-    admitted-meets ((remove c.args.sequence)) ((state_of c.args.w (memory c.args.sequences.now c.args.values.now c.args.pages.now c.args.blocks.now))) 384 refl c.in-Ok.ensures [] _ refl
-    (remove-acts c.args.sequence ((state_of c.args.w (memory c.args.sequences.now c.args.values.now c.args.pages.now c.args.blocks.now))) c.remove_value-step.result _ c.remove_value-step.ensures z c.keep_point.result c.keep_point.ensures)
+    let a = c.args in
+    let u = state_of a.w (memory a.sequences.now a.values.now a.pages.now a.blocks.now) in
+    admitted-meets (remove a.sequence) u 384 refl c.in-Ok.ensures [] _ refl
+    (remove-acts a.sequence u c.remove_value-step.result _ c.remove_value-step.ensures (window-asked (remove a.sequence) u 384 refl c.in-Ok.ensures)
+    c.keep_point.result c.keep_point.ensures)

@@ -13,17 +13,20 @@ use Rattle.call_point.proofs.set_base.set_base.Goals as goal
 
 pub returns-in-Err : goal.returns-in-Err
 returns-in-Err c =
-    refusal-meets ((set_base c.args.base)) ((state_of c.args.w (memory c.args.sequences.now c.args.values.now c.args.pages.now c.args.blocks.now))) 384 refl [] _ c.refuse.result c.in-Err.ensures c.refuse.ensures
+    let a = c.args in
+    let u = state_of a.w (memory a.sequences.now a.values.now a.pages.now a.blocks.now) in
+    refusal-meets (set_base a.base) u 384 refl [] _ _ c.in-Err.ensures c.refuse.ensures
 
 pub after_base-requires : goal.after_base-requires
 after_base-requires c =
-    let m = ((state_of c.args.w (memory c.args.sequences.now c.args.values.now c.args.pages.now c.args.blocks.now))).memory in
-    lists-lent c.args.w m.sequences m.values m.pages m.blocks
-    (admitted-fits ((set_base c.args.base)) ((state_of c.args.w (memory c.args.sequences.now c.args.values.now c.args.pages.now c.args.blocks.now))) 384 refl c.in-Ok.ensures)
+    let a = c.args in
+    let u = state_of a.w (memory a.sequences.now a.values.now a.pages.now a.blocks.now) in
+    lists-lent a.w a.sequences.now a.values.now a.pages.now a.blocks.now (admitted-fits (set_base a.base) u 384 refl c.in-Ok.ensures)
 
 pub returns-in-Ok : goal.returns-in-Ok
 returns-in-Ok c =
-    let z = window-asked ((set_base c.args.base)) ((state_of c.args.w (memory c.args.sequences.now c.args.values.now c.args.pages.now c.args.blocks.now))) 384 refl c.in-Ok.ensures in
-    admitted-meets ((set_base c.args.base)) ((state_of c.args.w (memory c.args.sequences.now c.args.values.now c.args.pages.now c.args.blocks.now))) 384 refl c.in-Ok.ensures [] _ refl
-    (subst (λ (r : Step). Acts ((set_base c.args.base)) ((state_of c.args.w (memory c.args.sequences.now c.args.values.now c.args.pages.now c.args.blocks.now))) [] (left_of r ((state_of c.args.w (memory c.args.sequences.now c.args.values.now c.args.pages.now c.args.blocks.now))).memory [])) (sym c.reply.ensures)
-    (base-acts c.args.base c.args.w ((state_of c.args.w (memory c.args.sequences.now c.args.values.now c.args.pages.now c.args.blocks.now))).memory c.after_base.result z c.after_base.ensures))
+    let a = c.args in
+    let u = state_of a.w (memory a.sequences.now a.values.now a.pages.now a.blocks.now) in
+    admitted-meets (set_base a.base) u 384 refl c.in-Ok.ensures [] _ refl
+    (subst (λ (r : Step). Acts (set_base a.base) u [] (left_of r u.memory [])) (sym c.reply.ensures)
+    (base-acts a.base a.w u.memory c.after_base.result (window-asked (set_base a.base) u 384 refl c.in-Ok.ensures) c.after_base.ensures))
