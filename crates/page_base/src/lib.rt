@@ -57,6 +57,7 @@ pub fn put_page_words(pages: &mut [u64], page: usize, words: PageWords)
 }
 
 // The 64 cells of one page: a part of the lent memory, which begins at 64 × page.
+// There is no such function for cells to be written: of a `&mut` of a range that is returned no proof says what the list becomes (tried).
 pub fn page_cells(cells: &[u32], page: usize) -> &[u32]
     requires { 64 * page + 64 ≤ length cells.now }
     ensures { result.now ≡ part_of page cells.now }
