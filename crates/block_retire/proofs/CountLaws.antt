@@ -77,9 +77,6 @@ module _ (pages : List ℕ) (b : ℕ) where
     pub named : PagesNamed pages b left
     pub sum : values + values_of pages b left ≡ values_of pages b mask
 
-  pub counting-begins : (mask : ℕ) → mask < 2 ^ 64 → PagesNamed pages b mask → Counting mask mask 0
-  counting-begins mask l n = record { fits = l; named = n; sum = omega arith }
-
   module _ (mask left values : ℕ) (t : Counting mask left values) where
     module _ (more : left ≡ 0 → ⊥) where
       -- the page of the lowest bit, as the code finds it

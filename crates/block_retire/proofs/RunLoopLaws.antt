@@ -57,9 +57,6 @@ module _ (h : AdaptiveReceiverPacketWindow) (pages blocks : List ℕ) where
 
   -- ---- the first block
 
-  pub first-whole : (from : ℕ) → from % 64 ≡ 0 → RetiresFirst h pages blocks from h blocks
-  first-whole from e = record { touches = touches_none h blocks (from / 64 + 1); gives = λ to run l m ss vs c. rw (eq-eqb (from % 64) 0 e) }
-
   module _ (r : AdaptiveReceiverPacketWindow) (blocks' : List ℕ) (mask : ℕ) where
     pub first_part : (from : ℕ) → (from % 64 ≡ 0 → ⊥) → mask ≡ span (from % 64) 64 → RetiresInBlock h pages blocks (from / 64) mask r blocks' → RetiresFirst h pages blocks from r blocks'
     first_part from e s t = record {
@@ -95,9 +92,6 @@ module _ (h : AdaptiveReceiverPacketWindow) (pages blocks : List ℕ) where
       where
         inside_of : Run h blocks to → (ss vs : List ℕ) → to ≤ page_count_of (decode h (memory ss vs pages blocks)).header.window_size
         inside_of run ss vs = rw (header_at h (memory ss vs pages blocks)) run.inside
-
-  pub last_none : (to : ℕ) → to % 64 ≡ 0 → RetiresLast h pages blocks to h blocks
-  last_none to e = record { touches = touches_none h blocks ((to + 63) / 64); gives = λ from run l m ss vs c. rw (eq-eqb (to % 64) 0 e) }
 
   pub pages-empty : (from to : ℕ) → to ≤ from → RetiresPages h pages blocks from to h blocks
   pages-empty from to l = record {

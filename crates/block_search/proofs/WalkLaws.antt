@@ -24,9 +24,6 @@ pub record Passed (selected : ℕ → Bool) (word : ℕ → ℕ) (first from : �
   pub nothing : (g : ℕ) → first ≤ g → g < from → selected g ≡ true → word g ≡ 0
 
 module _ (selected : ℕ → Bool) (word : ℕ → ℕ) (first : ℕ) where
-  pub passed-begins : Passed selected word first first
-  passed-begins = record { begun = omega arith; nothing = λ g a b e. absurd (omega arith) }
-
   -- a selected page with no bit in its word is passed
   pub passed-page : (g : ℕ) → Passed selected word first g → word g ≡ 0 → Passed selected word first (g + 1)
   passed-page g t e = record {

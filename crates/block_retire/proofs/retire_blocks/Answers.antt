@@ -27,9 +27,6 @@ loop-left-preserved c =
     marking-turn _ _ _ _ _ _ _ c.loop-left.invariant c.loop-left-test.true _ c.lowest-block.ensures _ _ _ _
     c.block_words.ensures c.retire_block-change.ensures c.put_block_words.ensures c.clear-left.ensures
 
-pub shape_of-blocks : goal.shape_of-blocks
-shape_of-blocks c = c.loop-left.invariant.long
-
 pub returns : goal.returns
 returns c =
     let fits : c.args.w.retired_blocks < 2 ^ 64 = omega arith in

@@ -9,9 +9,6 @@ values_in-removed-requires c = (c.requires.0, newly-named c.args.pages.now c.arg
 pub overflow_cast-removed : goal.overflow_cast-removed
 overflow_cast-removed c = omega (arith, c.values_in-removed.ensures, values-le c.args.pages.now c.args.block c.newly_retired-newly.result)
 
-pub put_block_words-requires : goal.put_block_words-requires
-put_block_words-requires c = (c.requires.0, c.requires.1)
-
 pub returns : goal.returns
 returns c =
     retires-in-block _ _ _ _ _ _ _ _ _ _ _ _ _ c.block_words.ensures c.split_retired_block-change.ensures c.newly_retired-newly.ensures

@@ -1,14 +1,11 @@
 use Rattle.std.proofs.Common.{◌<◌, arith}
 use Rattle.words.proofs.CountLaws.{count-le}
-use Rattle.block_retire.proofs.CountLaws.{counting-begins, counting-turn, counting-few, counting-less, counting-ends, page-in, bit-lt}
+use Rattle.block_retire.proofs.CountLaws.{counting-turn, counting-few, counting-less, counting-ends, page-in, bit-lt}
 use Rattle.block_retire.proofs.values_in.Goals as goal
 use Rattle.block_retire.proofs.values_in.Goals.{After-lowest-bit}
 
 bit-below : (c : After-lowest-bit) → c.lowest-bit.result < 64
 bit-below c = bit-lt _ _ _ _ _ c.loop-left.invariant c.loop-left-test.true _ c.lowest-bit.ensures
-
-pub loop-left-init : goal.loop-left-init
-loop-left-init c = counting-begins c.args.pages.now c.args.block c.args.mask (omega arith) c.requires.1
 
 pub overflow_add-page : goal.overflow_add-page
 overflow_add-page c = omega (arith, bit-below (goal.at.overflow_add-page c).After-lowest-bit, c.requires.0)

@@ -1,8 +1,5 @@
-use Rattle.block_retire.proofs.RunLoopLaws.{first-whole, first_part}
+use Rattle.block_retire.proofs.RunLoopLaws.{first_part}
 use Rattle.block_retire.proofs.run.retire_first.Goals as goal
-
-pub returns-then-from-eq0 : goal.returns-then-from-eq0
-returns-then-from-eq0 c = first-whole _ _ _ _ c.if-from-eq0.true
 
 pub returns : goal.returns
 returns c = first_part _ _ _ _ _ _ _ c.if-from-eq0.false c.span.ensures c.retire_pages_in_block.ensures

@@ -10,6 +10,3 @@ retire_pages_in_block-requires c = (omega (arith, c.requires.0, c.if-block-to.tr
 
 pub returns-then-block-to : goal.returns-then-block-to
 returns-then-block-to c = one_block _ _ _ _ _ _ _ _ c.if-to-from.false c.if-block-to.true c.span-mask.ensures c.retire_pages_in_block.ensures
-
-pub returns : goal.returns
-returns c = c.retire_several.ensures

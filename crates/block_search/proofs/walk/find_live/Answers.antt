@@ -7,7 +7,7 @@ use Rattle.page_base.specs.declared.PageWords.{PageWords}
 use Rattle.page_base.proofs.PartLaws.{part_length}
 use Rattle.block_search.specs.declared.Select.TheVariants.{Live}
 use Rattle.block_search.specs.Search.{is_selected}
-use Rattle.block_search.proofs.WalkLaws.{Passed, passed-begins, next-ge, next-selected, passed_to, passed-page}
+use Rattle.block_search.proofs.WalkLaws.{Passed, next-ge, next-selected, passed_to, passed-page}
 use Rattle.block_search.proofs.WalkLoopLaws.{occupied_in, word-is, walk-nothing, live-page, walk-cell, walk-answer}
 use Rattle.block_search.proofs.walk.find_live.Goals as goal
 use Rattle.block_search.proofs.walk.find_live.Goals.{In-Some, After-page_cells-cells}
@@ -31,10 +31,6 @@ part-long : (c : After-page_cells-cells) → length c.page_cells-cells.result.no
 part-long c =
     rw c.page_cells-cells.ensures
     (part_length c.in-Some.page c.args.sequences.now (omega (arith, c.in-Some.ensures.in_range, capacity-pages c.args.w.window_size)))
-
--- ---- the goals
-pub loop-page-init : goal.loop-page-init
-loop-page-init c = (omega arith, passed-begins _ _ _)
 
 pub next_page-requires : goal.next_page-requires
 next_page-requires c =
