@@ -1,5 +1,5 @@
 -- A run of whole pages retired, over plain variables: its first block, its last, those between, and all of them. Assumes nothing.
-use Rattle.std.proofs.Common.{◌≡◌, ℕ, suc, ◌+◌, ◌-◌, ◌*◌, ◌/◌, ◌%◌, ◌<◌, ◌≤◌, true, cond, eqb, List, length, sym, refl, ap, ◌∙◌, true≢false, arith, eq-eqb, ne_eqb}
+use Rattle.std.proofs.Common.{◌≡◌, ℕ, suc, ◌+◌, ◌-◌, ◌*◌, ◌/◌, ◌%◌, ◌<◌, ◌≤◌, true, cond, eqb, List, length, sym, refl, ap, ◌∙◌, true≢false, arith, ne_eqb}
 use native.Mathlib.Decide.{dec_lt}
 use Rattle.words.proofs.CaseLaws.{bool}
 use Rattle.words.specs.Word.{is_set, span}

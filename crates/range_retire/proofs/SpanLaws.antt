@@ -1,6 +1,6 @@
 -- A stretch of positions retired, over plain variables: its partial pages, its whole pages, and all of it. Assumes nothing.
 use mathlib.Core.Path.{◌≡◌, sym, ap, ◌∙◌}
-use mathlib.Core.Bool.{Bool, true, cond, not, ◌||◌}
+use mathlib.Core.Bool.{Bool, cond, not, ◌||◌}
 use mathlib.Core.List.{List, []}
 use Prim.Native.Nat.{ℕ, ◌+◌, ◌-◌, ◌*◌, ◌/◌, ◌%◌, ◌≤◌, ◌<◌}
 use native.Mathlib.Omega.{arith}
@@ -29,7 +29,7 @@ use Rattle.block_retire.proofs.RunLaws.{span_set, span-unset-below, span-unset-a
 use Rattle.range_retire.specs.declared.Retired.{Retired}
 use Rattle.range_retire.specs.Spans.{end_pages, partial, span_most}
 use Rattle.range_retire.specs.Promises.{Performs}
-use Rattle.range_retire.proofs.PerformLaws.{FitsMemory, fits_kept, performs-still, performs-as}
+use Rattle.range_retire.proofs.PerformLaws.{FitsMemory, fits_kept, performs-as}
 
 -- ---- tests at the positions of a page
 
@@ -92,12 +92,6 @@ module _ (h : AdaptiveReceiverPacketWindow) (m : Memory) (at : ℕ) (l : List �
 
   abbrev last : Window → Returned
   last v = last_page v q
-
-  pub head-whole : q % 64 ≡ 0 → Performs (λ (v : Window). first_page v q) (partial q) h m at l (record { window = h; count = 0; sound = true }) m l
-  head-whole e = performs-still (partial q) h m at l first (rw (eq-eqb (q % 64) 0 e))
-
-  pub tail-whole : q % 64 ≡ 0 → Performs (λ (v : Window). last_page v q) (partial q) h m at l (record { window = h; count = 0; sound = true }) m l
-  tail-whole e = performs-still (partial q) h m at l last (rw (eq-eqb (q % 64) 0 e))
 
   module _ (some : q % 64 ≡ 0 → ⊥) (slots : ℕ) (r : Retired) (m' : Memory) (l' : List ℕ) (t : Performs (λ (v : Window). remove_slots_of v (q / 64) (is_set slots)) 64 h m at l r m' l') where
     pub head-part : slots ≡ span (q % 64) 64 → Performs (λ (v : Window). first_page v q) (partial q) h m at l r m' l'

@@ -75,11 +75,6 @@ unfolding decode
 placed_at h ss vs pages blocks g ok l =
     subst (Placed h.n) (page-at h (memory ss vs pages blocks) g l) (placed h.n (capacity h.window_size) g ((decode h (memory ss vs pages blocks)).pages g) (ok.proper.sound.page g l))
 
--- what a drain of the page's words and parts gave
-pub drains-page : (n g slots at : ℕ) (ss vs pages l : List ℕ) (d : Drained) (l' : List ℕ) (w : PageWords) (ps qs : List ℕ)
-    → w ≡ words_at pages g → ps ≡ part_of g ss → qs ≡ part_of g vs → Drains n w ps qs slots at 64 l d l' → Drains n (words_at pages g) (part_of g ss) (part_of g vs) slots at 64 l d l'
-drains-page n g slots at ss vs pages l d l' w ps qs e f q t = rw (e, f, q) at t
-
 -- ---- the code's steps
 
 module _ (h : AdaptiveReceiverPacketWindow) (ss vs pages blocks l : List ℕ) (g slots at : ℕ) (d : Drained) (s : Settled) (r : AdaptiveReceiverPacketWindow)

@@ -27,11 +27,6 @@ returns-then-to-end c =
     range-one a.w m a.returned.now a.start a.count _ _ _ _ c.capacity-end.ensures c.if-to-end.true
     (performs-as _ a.w m 0 a.returned.now _ _ _ _ _ _ (omega (arith, most-across a.start (a.start + a.count) c.if-start-to.false)) refl c.retire_across.ensures)
 
-pub retire_round-requires : goal.retire_round-requires
-retire_round-requires c =
-    let e = c.capacity-end.ensures in
-    record { fits = c.requires.fits; start_lt_end = (omega (arith, e, c.requires.start_bound.0), omega (arith, e), omega (arith, e), omega (arith, c.if-to-end.false), omega (arith, e, c.requires.start_bound.0, c.requires.start_bound.2), c.requires.start_bound.3) }
-
 pub returns : goal.returns
 returns c =
     let a = c.args in

@@ -1,4 +1,4 @@
-use Rattle.std.proofs.Common.{refl, ap, ◌∙◌, ◌≤◌, arith}
+use Rattle.std.proofs.Common.{refl, ap, ◌≤◌, arith}
 use Rattle.window.specs.Memory.{memory, capacity}
 use Rattle.laws_soundness.specs.Change.{Limits}
 use Rattle.range_retire.specs.Spans.{span_most}
@@ -21,21 +21,6 @@ pub overflow_add-result : goal.overflow_add-result
 overflow_add-result c =
     let few : span_most c.args.start c.args.end ≤ 64 = let a = c.args in most-end a.start a.end (capacity-whole a.w.window_size a.end c.requires.start_lt_end.1 c.requires.start_lt_end.2) in
     omega (arith, c.retire_span-first.ensures.few, few, c.retire_span-second.ensures.few, most-begin c.args.rest)
-
-pub shape_of-sequences : goal.shape_of-sequences
-shape_of-sequences c = c.retire_span-second.ensures.lengths.sequences ∙ c.retire_span-first.ensures.lengths.sequences
-
-pub shape_of-values : goal.shape_of-values
-shape_of-values c = c.retire_span-second.ensures.lengths.values ∙ c.retire_span-first.ensures.lengths.values
-
-pub shape_of-pages : goal.shape_of-pages
-shape_of-pages c = c.retire_span-second.ensures.lengths.pages ∙ c.retire_span-first.ensures.lengths.pages
-
-pub shape_of-blocks : goal.shape_of-blocks
-shape_of-blocks c = c.retire_span-second.ensures.lengths.blocks ∙ c.retire_span-first.ensures.lengths.blocks
-
-pub shape_of-returned : goal.shape_of-returned
-shape_of-returned c = c.retire_span-second.ensures.wrote.long ∙ c.retire_span-first.ensures.wrote.long
 
 pub returns : goal.returns
 returns c =

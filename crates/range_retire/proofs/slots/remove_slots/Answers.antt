@@ -19,9 +19,6 @@ page_retired-requires c =
     let i = page-in a.w a.page (length a.sequences.now) (length a.values.now) (length a.pages.now) (length a.blocks.now) c.requires.fits c.requires.page_bound.0 in
     (i.few, i.block)
 
-pub take_slots-requires : goal.take_slots-requires
-take_slots-requires c = record { fits = c.requires.fits; page_bound = c.requires.page_bound }
-
 pub returns : goal.returns
 returns c =
     let a = c.args in

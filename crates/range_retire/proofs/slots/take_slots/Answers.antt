@@ -1,5 +1,5 @@
 -- The values drained, the page settled, and the bookkeeping for it, one after another (takes-slots). Assumes nothing.
-use Rattle.std.proofs.Common.{arith, length}
+use Rattle.std.proofs.Common.{length}
 use Rattle.range_retire.proofs.TakeLaws.{page-in, takes-slots}
 use Rattle.range_retire.proofs.slots.take_slots.Goals as goal
 
@@ -14,9 +14,6 @@ settle_page-s-requires c =
     let a = c.args in
     let i = page-in a.w a.page (length a.sequences.now) (length a.values.now) (length a.pages.now) (length a.blocks.now) c.requires.fits c.requires.page_bound.0 in
     (i.few, i.sequences, i.values)
-
-pub overflow_cast-count : goal.overflow_cast-count
-overflow_cast-count c = omega (arith, c.drain_slots-d.ensures.few)
 
 pub store_removed-window-requires : goal.store_removed-window-requires
 store_removed-window-requires c =

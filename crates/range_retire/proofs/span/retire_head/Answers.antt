@@ -1,11 +1,8 @@
 use Rattle.std.proofs.Common.{arith}
 use Rattle.window.specs.Memory.{memory}
 use Rattle.window.proofs.MemoryLaws.{capacity-pages}
-use Rattle.range_retire.proofs.SpanLaws.{partial-some, head-whole, head-part}
+use Rattle.range_retire.proofs.SpanLaws.{partial-some, head-part}
 use Rattle.range_retire.proofs.span.retire_head.Goals as goal
-
-pub returns-then-start-eq0 : goal.returns-then-start-eq0
-returns-then-start-eq0 c = let a = c.args in head-whole a.w (memory a.sequences.now a.values.now a.pages.now a.blocks.now) a.at a.returned.now a.start c.if-start-eq0.true
 
 pub remove_slots-requires : goal.remove_slots-requires
 remove_slots-requires c =

@@ -1,11 +1,8 @@
 use Rattle.std.proofs.Common.{arith}
 use Rattle.window.specs.Memory.{memory}
 use Rattle.window.proofs.MemoryLaws.{capacity-pages}
-use Rattle.range_retire.proofs.SpanLaws.{partial-some, tail-whole, tail-part}
+use Rattle.range_retire.proofs.SpanLaws.{partial-some, tail-part}
 use Rattle.range_retire.proofs.span.retire_tail.Goals as goal
-
-pub returns-then-end-eq0 : goal.returns-then-end-eq0
-returns-then-end-eq0 c = let a = c.args in tail-whole a.w (memory a.sequences.now a.values.now a.pages.now a.blocks.now) a.at a.returned.now a.end c.if-end-eq0.true
 
 pub remove_slots-requires : goal.remove_slots-requires
 remove_slots-requires c =
