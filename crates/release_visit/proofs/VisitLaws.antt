@@ -22,7 +22,6 @@ use Rattle.page_base.proofs.DecodeLaws.{header_at, page-at}
 use Rattle.page_base.proofs.LiveLaws.{page-placed}
 use Rattle.page_remove.specs.Promises.{Wrote, stretch}
 use Rattle.page_remove.proofs.WroteLaws.{wrote_then, stretch-then, stretch-length}
-use Rattle.page_remove.proofs.DrainLoopLaws.{wrote_none}
 use Rattle.block_marks.specs.Promises.{ChangesHeader}
 use Rattle.block_marks.proofs.BlockLaws.{decode-header}
 use Rattle.laws_soundness.specs.Change.{Limits, limits_of}
@@ -137,20 +136,6 @@ module _ (h : AdaptiveReceiverPacketWindow) (ss vs pages₀ blocks₀ l₀ : Lis
     pub limits : limits_of w ≡ limits_of h
     pub sound : Sound before → Sound (decode w (memory ss vs pages blocks))
     pub gives : Sound before → release budget before ≡ joined (stretch at count l) units (release (budget - units) (decode w (memory ss vs pages blocks)))
-
-  pub visiting-begins : Visiting pages₀ blocks₀ l₀ h 0 0
-  visiting-begins = record {
-    within = within_none h.window_size pages₀ blocks₀;
-    wrote = wrote_none at l₀;
-    few = omega arith;
-    paid = omega arith;
-    limits = refl;
-    sound = λ ok. ok;
-    gives = λ ok.
-        let e : budget - 0 ≡ budget = omega arith in
-        let z : (n : ℕ) → 0 + n ≡ n = λ n. omega arith in
-        λ i. release_of (release (sym e i) before).after (release (sym e i) before).out (sym (z (release (sym e i) before).units) i);
-  }
 
   module _ (pages blocks l : List ℕ) (w : AdaptiveReceiverPacketWindow) (count units : ℕ) (t : Visiting pages blocks l w count units) where
     abbrev v : Window

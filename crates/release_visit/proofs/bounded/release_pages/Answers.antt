@@ -77,21 +77,6 @@ release_page-released-requires c =
       row_in = (omega (arith, end_is, low, need.3, t.within.blocks_long), few.1, omega (arith, few.2), omega (arith, few.3, t.wrote.long, c.loop-count-test.true));
     }
 
-pub overflow_add-count : goal.overflow_add-count
-overflow_add-count c = omega (arith, c.release_page-released.ensures.few, c.loop-count-test.true, c.requires.window_size_bound.2)
-
-pub overflow_add-from : goal.overflow_add-from
-overflow_add-from c = omega (arith, c.in-Some.ensures.in_range, c.page_count-end.ensures, page-count-le c.args.w.window_size)
-
-pub shape_of-pages-then-not-released : goal.shape_of-pages-then-not-released
-shape_of-pages-then-not-released c = c.release_page-released.ensures.within.pages_long ∙ c.loop-count.invariant.within.pages_long
-
-pub shape_of-blocks-then-not-released : goal.shape_of-blocks-then-not-released
-shape_of-blocks-then-not-released c = c.release_page-released.ensures.within.blocks_long ∙ c.loop-count.invariant.within.blocks_long
-
-pub shape_of-returned-then-not-released : goal.shape_of-returned-then-not-released
-shape_of-returned-then-not-released c = c.release_page-released.ensures.wrote.long ∙ c.loop-count.invariant.wrote.long
-
 pub returns-then-not-released : goal.returns-then-not-released
 returns-then-not-released c =
     let a = c.args in
