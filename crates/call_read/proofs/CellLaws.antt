@@ -1,5 +1,6 @@
 -- The next reachable cell, over plain variables, from block to block; PageCellLaws has what one page and one block give. Assumes nothing.
-use Rattle.std.proofs.Common.{◌≡◌, ℕ, ◌+◌, ◌-◌, ◌*◌, ◌/◌, ◌%◌, ◌<◌, ◌≤◌, Bool, true, false, ◌&&◌, eqb, List, sym, refl, ap, ◌∙◌, subst, arith, le-ltb, lt-ltb, eq-eqb, ne_eqb, eqb-true}
+use Rattle.std.proofs.Common.{◌≡◌, ℕ, ◌+◌, ◌-◌, ◌*◌, ◌/◌, ◌%◌, ◌<◌, ◌≤◌, Bool, true, false, true≢false, ◌&&◌, eqb, List, sym, refl, ap, ◌∙◌, subst, arith, le-ltb, lt-ltb, eq-eqb, ne_eqb, eqb-true}
+use Rattle.std.specs.Prelude.{Option, Some, None, IfSome, unwrap_or, is_some}
 use mathlib.Core.Bool.{and-true, and-false}
 use native.Mathlib.Decide.{ℕ_discrete}
 use Rattle.words.proofs.CaseLaws.{bool, both}
@@ -75,15 +76,16 @@ module _ (h : AdaptiveReceiverPacketWindow) (pages blocks : List ℕ) (start end
   held_in : (b q : ℕ) → q / 4096 ≡ b → is_live_cell pages (selected_pages_of blocks h.retired_blocks (q / 64 / 64) Live) q ≡ is_live_cell pages (selected_pages_of blocks h.retired_blocks b Live) q
   held_in b q e = let d : q / 64 / 64 ≡ b = omega (arith, e) in ap (λ (x : ℕ). is_live_cell pages (pages_of x) q) d
 
-  finds : (c reads : ℕ) → start ≤ c → c ≤ end → (c < end → is_live_cell pages (selected_pages_of blocks h.retired_blocks (c / 64 / 64) Live) c ≡ true)
+  -- o is cell c if c is below the end, none if c is the end
+  finds : (o : Option ℕ) (c reads : ℕ) → IfSome o (λ x. x < end) → unwrap_or o end ≡ c → start ≤ c → c ≤ end → (c < end → is_live_cell pages (selected_pages_of blocks h.retired_blocks (c / 64 / 64) Live) c ≡ true)
       → ((q : ℕ) → start ≤ q → q < c → is_live_cell pages (selected_pages_of blocks h.retired_blocks (q / 64 / 64) Live) q ≡ false) → reads ≡ reads_of end start c
-      → FindsCell h pages blocks start end (record { cell = c; reads = reads })
-  finds c reads low high held none e = record {
-    bounded = high;
-    counted = e;
+      → FindsCell h pages blocks start end (record { cell = o; reads = reads })
+  finds o c reads within is low high held none e = record {
+    bounded = within;
+    counted = e ∙ ap (reads_of end start) (sym is);
     gives = λ ss vs ok.
         let m = memory ss vs pages blocks in
-        first-eq (is_reached (decode h m)) (end - start) start c (record {
+        is ∙ first-eq (is_reached (decode h m)) (end - start) start c (record {
           from = low;
           top = omega arith;
           held = λ l. let k : c < end = omega arith in sym (held-is h m ok c (omega (arith, top))) ∙ held k;
@@ -100,14 +102,14 @@ module _ (h : AdaptiveReceiverPacketWindow) (pages blocks : List ℕ) (start end
 
   -- a cell of the page of the start
   pub own-cell : (c : ℕ) → c ≡ cell_in_page_of pages (selected_pages_of blocks h.retired_blocks (start / 4096) Live) (start / 64) (start % 64) → c < 64
-      → FindsCell h pages blocks start end (record { cell = 64 * (start / 64) + c; reads = 1 })
+      → FindsCell h pages blocks start end (record { cell = Some (64 * (start / 64) + c); reads = 1 })
   unfolding cell_in_page_of
   own-cell c e l =
       let P : ℕ → Bool = λ (x : ℕ). is_live_cell pages (pages_of (start / 4096)) (64 * (start / 64) + x) in
       let i = subst (IsFirst P (start % 64) (64 - start % 64 + start % 64)) (sym e) (first-is P (64 - start % 64) (start % 64)) in
       let b = capacity-pages h.window_size in
       let z = 64 * (start / 64) + c in
-      finds z 1 (omega (arith, i.from)) (omega (arith, top, b)) (λ k. held_in (start / 4096) z (omega arith) ∙ i.held (omega arith))
+      finds (Some z) z 1 (omega (arith, top, b)) refl (omega (arith, i.from)) (omega (arith, top, b)) (λ k. held_in (start / 4096) z (omega arith) ∙ i.held (omega arith))
       (λ q x y.
       let d : 64 * (start / 64) + q % 64 ≡ q = omega arith in
       held_in (start / 4096) q (omega arith) ∙ subst (λ (k : ℕ). is_live_cell pages (pages_of (start / 4096)) k ≡ false) d (i.none (q % 64) (omega arith) (omega arith)))
@@ -133,19 +135,19 @@ module _ (h : AdaptiveReceiverPacketWindow) (pages blocks : List ℕ) (start end
     cell-le : c ≤ end
     cell-le = omega (arith, found-is.top)
 
-    pub block-cell : c < end → FindsCell h pages blocks start end (record { cell = c; reads = b - start / 4096 + 1 })
+    block-cell : c < end → FindsCell h pages blocks start end (record { cell = Some c; reads = b - start / 4096 + 1 })
     block-cell l =
         let w = both _ _ (found-is.held (omega arith)) in
         let d : c / 4096 ≡ b = eqb-true _ _ w.0 in
-        finds c _ found-is.from cell-le (λ k. held_in b c d ∙ w.1)
+        finds (Some c) c _ l refl found-is.from cell-le (λ k. held_in b c d ∙ w.1)
         (λ q x y. elim (ℕ_discrete (q / 4096) b) [
           | yes k ↦ none_in q x y k
           | no k ↦ t.none q x (omega arith) (omega arith)
         ])
         (reads-found c b l d)
 
-    pub none-next : end ≤ c → NoneBefore pages blocks h.retired_blocks start end (b + 1)
-    none-next l = record {
+    none_after : end ≤ c → NoneBefore pages blocks h.retired_blocks start end (b + 1)
+    none_after l = record {
       none = λ q x y k. elim (ℕ_discrete (q / 4096) b) [
         | yes d ↦ none_in q x (omega arith) d
         | no d ↦ t.none q x y (omega arith)
@@ -153,8 +155,22 @@ module _ (h : AdaptiveReceiverPacketWindow) (pages blocks : List ℕ) (start end
     }
 
     -- b is the last block
-    pub block-end : end ≤ c → (end - 1) / 4096 ≡ b → FindsCell h pages blocks start end (record { cell = end; reads = b - start / 4096 + 1 })
-    block-end l d =
-        finds end _ (omega arith) (omega arith) (λ k. absurd (omega arith))
-        (λ q x y. (none-next l).none q x y (omega arith))
+    block_end : end ≤ c → (end - 1) / 4096 ≡ b → FindsCell h pages blocks start end (record { cell = None; reads = b - start / 4096 + 1 })
+    block_end l d =
+        finds None end _ tt refl (omega arith) (omega arith) (λ k. absurd (omega arith))
+        (λ q x y. (none_after l).none q x y (omega arith))
         (reads_end b d)
+
+  -- block b gave a cell, or it is the last
+  pub block-ends : (b : ℕ) → NoneBefore pages blocks h.retired_blocks start end b → (o : Option ℕ) → IfSome o (λ q. q < end)
+      → unwrap_or o end ≡ cell_in_block_of pages (selected_pages_of blocks h.retired_blocks b Live) b start end → (is_some o ≡ false → (end - 1) / 4096 ≡ b)
+      → FindsCell h pages blocks start end (record { cell = o; reads = b - start / 4096 + 1 })
+  block-ends b t (Some c) within e last = block-cell b c t e within
+  block-ends b t None within e last = block_end b end t e (omega arith) (last refl)
+
+  -- it gave none
+  pub none-next : (b : ℕ) → NoneBefore pages blocks h.retired_blocks start end b → (o : Option ℕ)
+      → unwrap_or o end ≡ cell_in_block_of pages (selected_pages_of blocks h.retired_blocks b Live) b start end → is_some o ≡ false
+      → NoneBefore pages blocks h.retired_blocks start end (b + 1)
+  none-next b t (Some c) e n = absurd (true≢false n)
+  none-next b t None e n = none_after b end t e (omega arith)

@@ -1,5 +1,6 @@
 -- get, over plain variables: what a page gives is what stands at the sequence's position. Assumes nothing.
-use Rattle.std.proofs.Common.{◌≡◌, ℕ, ◌/◌, ◌%◌, ◌<◌, List, sym, ap, ◌∙◌, subst}
+use Rattle.std.proofs.Common.{◌≡◌, ℕ, ◌/◌, ◌%◌, ◌<◌, Bool, true, false, List, sym, ap, ◌∙◌, subst}
+use Rattle.std.specs.Prelude.{Option as Maybe}
 use mathlib.Core.Option.{Option}
 use Rattle.window.specs.declared.AdaptiveReceiverPacketWindow.{AdaptiveReceiverPacketWindow}
 use Rattle.window.specs.Memory.{Memory, memory, page_count_of, position}
@@ -10,7 +11,6 @@ use Rattle.model.specs.Window.{decode, live_at, stands_at}
 use Rattle.model.specs.Steps.{window_answer}
 use Rattle.model.specs.Sound.{Sound}
 use Rattle.page_base.specs.declared.PageWords.{PageWords}
-
 use Rattle.page_base.specs.Page.{words_at, part_of, page, Placed}
 use Rattle.page_base.specs.Promises.{read_answer_of, read_of, Reads}
 use Rattle.page_base.proofs.LiveLaws.{page-placed, live-none, live-is}
@@ -35,7 +35,7 @@ module _ (h : AdaptiveReceiverPacketWindow) (ss vs pages blocks : List ℕ) (s p
   get_absent z ok = ap (λ (o : Option Pair). value_if s o) (sym (live-none h m p (unreachable h m ok (p / 64) below r reach z))) ∙ ap (λ (q : ℕ). value_if s (live_at (decode h m) q)) e
 
   -- x is what the page gave, read by its words and its parts of the lists
-  pub get-read : r ≡ true → (w : PageWords) (cs ds : List ℕ) (x : Option ℕ) → w ≡ words_at pages (p / 64) → cs ≡ part_of (p / 64) ss → ds ≡ part_of (p / 64) vs
+  pub get-read : r ≡ true → (w : PageWords) (cs ds : List ℕ) (x : Maybe ℕ) → w ≡ words_at pages (p / 64) → cs ≡ part_of (p / 64) ss → ds ≡ part_of (p / 64) vs
       → Reads h.n w cs ds s x → Sound (decode h (memory ss vs pages blocks)) → read_answer_of x ≡ window_answer (decode h (memory ss vs pages blocks)) (get s)
   unfolding decode
   get-read n w cs ds x ew ec ed t ok =

@@ -1,5 +1,6 @@
 -- iter, over plain variables: the pair of the next reachable cell, or done, with the reads. Assumes nothing.
 use Rattle.std.proofs.Common.{◌≡◌, ℕ, ◌+◌, ◌-◌, ◌*◌, ◌/◌, ◌%◌, ◌<◌, ◌≤◌, cond, ltb, List, get_or, sym, refl, ap, ◌∙◌, arith, le-ltb, lt-ltb}
+use Rattle.std.specs.Prelude.{Option, Some, None, unwrap_or}
 use Rattle.words.specs.First.{first_from_of}
 use Rattle.words.proofs.FirstLaws.{first-eq}
 use Rattle.window.specs.declared.AdaptiveReceiverPacketWindow.{AdaptiveReceiverPacketWindow}
@@ -22,26 +23,37 @@ module _ (v : Window) (n c cap k : ℕ) (ec : cap ≡ capacity_of v) (e : c ≡ 
   unfolding iter_step
   answer-is = ap (answer cap) e ∙ (λ i. answer (ec i) (first_from_of (is_reached v) (ec i - n) n))
 
-  pub iter-none : cap ≤ c → ended k ≡ iter_step v n
-  iter-none l = ap ended ek ∙ sym past ∙ answer-is
+  ended_is : cap ≤ c → ended k ≡ iter_step v n
+  ended_is l = ap ended ek ∙ sym past ∙ answer-is
     where
       past : answer cap c ≡ ended (reads_of cap n c)
       past = rw (le-ltb c cap l)
 
-  pub iter-some : c < cap → (p : Pair) → cell_pair v c ≡ p → pair p.sequence p.value (c + 1) k ≡ iter_step v n
-  iter-some l p q = (λ i. pair (sym q i).sequence (sym q i).value (c + 1) (ek i)) ∙ sym inside ∙ answer-is
+  pair_is : c < cap → (p : Pair) → cell_pair v c ≡ p → pair p.sequence p.value (c + 1) k ≡ iter_step v n
+  pair_is l p q = (λ i. pair (sym q i).sequence (sym q i).value (c + 1) (ek i)) ∙ sym inside ∙ answer-is
     where
       inside : answer cap c ≡ pair (cell_pair v c).sequence (cell_pair v c).value (c + 1) (reads_of cap n c)
       inside = rw (lt-ltb c cap l)
 
--- "done (also from capacity or more)"
-pub none-past : (v : Window) (n cap : ℕ) → cap ≤ n → n ≡ first_from_of (is_reached v) (cap - n) n
-none-past v n cap l =
-    first-eq (is_reached v) (cap - n) n n (record { from = omega arith; top = omega arith; held = λ k. absurd (omega arith); none = λ j a b. absurd (omega arith) })
+-- ---- by what the search gave: cell c, or none
 
--- document 02, S-2: "none from capacity or more"
-pub reads-past : (n cap : ℕ) → cap ≤ n → 0 ≡ reads_of cap n n
-reads-past n cap l = rw (le-ltb n cap l) refl
+module _ (v : Window) (n cap k : ℕ) (o : Option ℕ) (ec : cap ≡ capacity_of v) (e : unwrap_or o cap ≡ first_from_of (is_reached v) (cap - n) n)
+    (ek : k ≡ reads_of cap n (unwrap_or o cap)) where
+  pub iter-none : o ≡ None → ended k ≡ iter_step v n
+  iter-none z = ended_is v n _ cap k ec e ek (omega (arith, ap (λ (x : Option ℕ). unwrap_or x cap) z))
+
+  pub iter-some : (c : ℕ) → o ≡ Some c → c < cap → (p : Pair) → cell_pair v c ≡ p → pair p.sequence p.value (c + 1) k ≡ iter_step v n
+  iter-some c z =
+      let is = ap (λ (x : Option ℕ). unwrap_or x cap) z in
+      pair_is v n c cap k ec (sym is ∙ e) (ek ∙ ap (reads_of cap n) is)
+
+-- "done (also from capacity or more)"; document 02, S-2: "none from capacity or more"
+pub iter-past : (v : Window) (n cap : ℕ) → cap ≡ capacity_of v → cap ≤ n → ended 0 ≡ iter_step v n
+iter-past v n cap ec l =
+    ended_is v n n cap 0 ec
+    (first-eq (is_reached v) (cap - n) n n (record { from = omega arith; top = omega arith; held = λ k. absurd (omega arith); none = λ j a b. absurd (omega arith) }))
+    (rw (le-ltb n cap l) refl)
+    l
 
 -- ---- the pair of a cell in the lent lists
 

@@ -28,22 +28,27 @@ held_at pages live g c l =
     rw (d, r)
 
 module _ (pages : List ℕ) (live g from : ℕ) (low : from < 64) where
-  pub page-dead : bit_at live (g % 64) ≡ 0 → 64 ≡ cell_in_page_of pages live g from
+  pub page-dead : is_set live (g % 64) ≡ false → 64 ≡ cell_in_page_of pages live g from
   unfolding cell_in_page_of
   page-dead z =
       first-eq (λ (c : ℕ). is_live_cell pages live (64 * g + c)) (64 - from) from 64 (record {
         from = omega arith;
         top = omega arith;
         held = λ l. absurd (omega arith);
-        none = λ j a b. held_at pages live g j b ∙ rw (ne_eqb (bit_at live (g % 64)) 1 (λ e. omega (arith, e, z)));
+        none = λ j a b. held_at pages live g j b ∙ rw z;
       })
 
-  pub page-live : (bit_at live (g % 64) ≡ 0 → ⊥) → lowest (words_at pages g).filled from ≡ cell_in_page_of pages live g from
+  pub page-live : is_set live (g % 64) ≡ true → lowest (words_at pages g).filled from ≡ cell_in_page_of pages live g from
   unfolding cell_in_page_of lowest
-  page-live n =
-      let s = eq-eqb (bit_at live (g % 64)) 1 (omega (arith, n, bit-lt live (g % 64))) in
+  page-live s =
       first-same (is_set (words_at pages g).filled) (λ (c : ℕ). is_live_cell pages live (64 * g + c)) (64 - from) from
       (λ j a b. sym (held_at pages live g j (omega arith) ∙ rw s))
+
+  -- the page has none from there on
+  pub page-empty : is_set live (g % 64) ≡ true → 64 ≤ lowest (words_at pages g).filled from → 64 ≡ cell_in_page_of pages live g from
+  page-empty s l =
+      let e : 64 ≡ lowest (words_at pages g).filled from = omega (arith, (lowest-is (words_at pages g).filled from (omega arith)).top) in
+      e ∙ page-live s
 
 -- ---- one block
 
@@ -158,8 +163,11 @@ module _ (pages : List ℕ) (live b start end : ℕ) (some : start < end) where
       abbrev j : ℕ
       j = lowest (filled_in pages start end g) 0
 
-      pub cell-lt : lowest (filled_in pages start end (64 * b + lowest left 0)) 0 < 64
+      cell-lt : lowest (filled_in pages start end (64 * b + lowest left 0)) 0 < 64
       cell-lt = lowest-lt start end g (words_at pages g).filled fits used
+
+      pub cell-in : 64 * (64 * b + lowest left 0) + lowest (filled_in pages start end (64 * b + lowest left 0)) 0 < end
+      cell-in = (lowest-range start end g (words_at pages g).filled fits used).1
 
       pub finds : 64 * (64 * b + lowest left 0) + lowest (filled_in pages start end (64 * b + lowest left 0)) 0 ≡ cell_in_block_of pages live b start end
       unfolding cell_in_block_of

@@ -4,6 +4,7 @@ use mathlib.Core.Bool.{and-false}
 use native.Mathlib.Decide.{dec_lt}
 use native.Mathlib.Nat.{sub-zero}
 use borrow.Author.Tests.{lt-leb}
+use Rattle.std.specs.Prelude.{Result, Option}
 use Rattle.words.proofs.CaseLaws.{bool}
 use Rattle.words.specs.First.{first_from_of, first_round}
 use Rattle.words.proofs.FirstLaws.{first-is, first-eq, round_up, round-low, round-end}
@@ -14,7 +15,7 @@ use Rattle.model.specs.Calls.{Answer, absent}
 use Rattle.model.specs.Table.{covers, sequence_of, is_stranger_of}
 use Rattle.model.specs.Window.{Window, decode, size_of, capacity_of, live_at}
 use Rattle.model.specs.Sound.{Sound}
-use Rattle.block_search.specs.declared.walk.Found.{Found}
+use Rattle.window.specs.declared.refusals.Refusal.{Refusal}
 use Rattle.block_search.specs.Promises.{found_answer_of}
 use Rattle.call_read.specs.Promises.{stranger_from, FindsStranger, stranger_position, stranger_in_range, FindsInRange}
 use Rattle.call_read.proofs.RoundLaws.{none-held, at_in, at-past}
@@ -190,7 +191,7 @@ module _ (h : AdaptiveReceiverPacketWindow) (ss pages blocks : List ℕ) (first 
   below : position h.window_size first < capacity h.window_size
   below = position-lt h.window_size first
 
-  pub finds-one : start + count ≤ cap → (r : Found) → FindsStranger h ss pages blocks start (start + count) first count r → FindsInRange h ss pages blocks first count r
+  pub finds-one : start + count ≤ cap → (r : Result (Option ℕ) Refusal) → FindsStranger h ss pages blocks start (start + count) first count r → FindsInRange h ss pages blocks first count r
   unfolding decode
   finds-one l r f = record {
     gives = λ vs ok.
@@ -198,7 +199,7 @@ module _ (h : AdaptiveReceiverPacketWindow) (ss pages blocks : List ℕ) (first 
         f.gives vs ok ∙ (λ i. stranger_from v (es i) (es i + count) first count) ∙ one-stretch v first count below few (omega arith);
   }
 
-  module _ (wraps : cap < start + count) (r : Found) (f : FindsStranger h ss pages blocks start cap first count r) where
+  module _ (wraps : cap < start + count) (r : Result (Option ℕ) Refusal) (f : FindsStranger h ss pages blocks start cap first count r) where
     first-is-so : (vs : List ℕ) → Sound (decode h (memory ss vs pages blocks))
         → found_answer_of r ≡ stranger_from (decode h (memory ss vs pages blocks)) (position h.window_size first) (capacity h.window_size) first count
     first-is-so vs ok = f.gives vs ok ∙ (λ i. stranger_from (decode h (memory ss vs pages blocks)) (es i) (ec i) first count)
@@ -212,7 +213,7 @@ module _ (h : AdaptiveReceiverPacketWindow) (ss pages blocks : List ℕ) (first 
           e ∙ first-stretch v first count below few (omega arith) (λ z. n (e ∙ z));
     }
 
-    pub finds-second : found_answer_of r ≡ absent → (t : Found) → FindsStranger h ss pages blocks 0 (start + count - cap) first count t → FindsInRange h ss pages blocks first count t
+    pub finds-second : found_answer_of r ≡ absent → (t : Result (Option ℕ) Refusal) → FindsStranger h ss pages blocks 0 (start + count - cap) first count t → FindsInRange h ss pages blocks first count t
     unfolding decode
     finds-second z t g = record {
       gives = λ vs ok.

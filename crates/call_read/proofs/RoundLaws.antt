@@ -2,18 +2,19 @@
 use Rattle.std.proofs.Common.{◌≡◌, ℕ, ◌+◌, ◌-◌, ◌%◌, ◌^◌, ◌<◌, ◌≤◌, Bool, true, false, cond, ltb, List, sym, refl, ap, ◌∙◌, true≢false, mod-eq_of_lt, arith, ltb-true, le-ltb, lt-ltb}
 use mathlib.Core.Option.{Option, none, some}
 use native.Mathlib.Nat.{sub-zero, mod_self}
+use Rattle.std.specs.Prelude.{Result, Ok, Err, Option as Maybe, Some}
 use Rattle.words.proofs.CaseLaws.{bool}
 use Rattle.words.specs.First.{first_from_of}
 use Rattle.words.proofs.FirstLaws.{first-is, round_up, round-low, round-end}
 use Rattle.window.specs.declared.AdaptiveReceiverPacketWindow.{AdaptiveReceiverPacketWindow}
 use Rattle.window.specs.Memory.{Memory, memory, capacity, position}
 use Rattle.window.proofs.MemoryLaws.{position-lt}
+use Rattle.window.specs.declared.refusals.Refusal.{Refusal}
+use Rattle.window.specs.Refusals.{refusal_number_of}
 use Rattle.model.specs.Calls.{successor_after, first_from, Answer, done, new, replaced, absent, found, pair, ended, released, refused}
 use Rattle.model.specs.Table.{Pair, holds, sequence_of, search_from}
 use Rattle.model.specs.Window.{Window, decode, live_at, capacity_of}
 use Rattle.model.specs.Steps.{window_answer}
-use Rattle.block_search.specs.declared.walk.Found.{Found}
-use Rattle.block_search.specs.declared.walk.Found.TheVariants.{At, Nothing, Unsound}
 use Rattle.block_search.specs.Promises.{found_answer_of, first_live, FindsLive}
 use Rattle.call_base.proofs.FitLaws.{low-position, next-position}
 use Rattle.call_read.specs.Promises.{FindsRound}
@@ -39,11 +40,13 @@ pub none-held : (o : Option Pair) → sequence_of o ≡ absent → holds o ≡ f
 none-held none e = refl
 none-held (some x) e = absurd (not-absent (found x.sequence) refl e)
 
--- past the pattern `Nothing` the walk's answer is another
-pub something : (r : Found) → (r ≡ Nothing → ⊥) → found_answer_of r ≡ absent → ⊥
-something (At s) t e = not-absent (found s) refl e
-something Nothing t e = t refl
-something Unsound t e = not-absent (refused 7) refl e
+-- what a walk found is an answer
+pub something : (s : ℕ) → found_answer_of (Ok (Some s)) ≡ absent → ⊥
+something s e = not-absent (found s) refl e
+
+-- and so is its refusal
+pub some_refusal : (why : Refusal) → found_answer_of (Err why) ≡ absent → ⊥
+some_refusal why e = not-absent (refused (refusal_number_of why)) refl e
 
 -- ---- ranges
 
@@ -115,7 +118,7 @@ module _ (h : AdaptiveReceiverPacketWindow) (ss pages blocks : List ℕ) (s p ca
   unfolding decode
   search_is vs q e = λ i. search_from (ec i) (live_at (decode h (memory ss vs pages blocks))) (e i)
 
-  pub finds-all : (r : Found) → cap ≤ p + 1 → FindsLive h ss pages blocks 0 cap r → FindsRound h ss pages blocks s (found_answer_of r)
+  pub finds-all : (r : Result (Maybe ℕ) Refusal) → cap ≤ p + 1 → FindsLive h ss pages blocks 0 cap r → FindsRound h ss pages blocks s (found_answer_of r)
   finds-all r l f =
       let z : p + 1 ≡ cap = omega (arith, below) in
       record { gives = λ vs ok. f.gives vs ok ∙ all-round (decode h (memory ss vs pages blocks)) cap ∙ search_is vs 0 (sym (mod_self cap) ∙ ap (λ (x : ℕ). x % cap) (sym z) ∙ next) }
@@ -124,14 +127,14 @@ module _ (h : AdaptiveReceiverPacketWindow) (ss pages blocks : List ℕ) (s p ca
     after : p + 1 ≡ position h.window_size (s + 1)
     after = sym (mod-eq_of_lt l) ∙ next
 
-    pub finds-upper : (r : Found) → FindsLive h ss pages blocks (p + 1) cap r → (found_answer_of r ≡ absent → ⊥) → FindsRound h ss pages blocks s (found_answer_of r)
+    pub finds-upper : (r : Result (Maybe ℕ) Refusal) → FindsLive h ss pages blocks (p + 1) cap r → (found_answer_of r ≡ absent → ⊥) → FindsRound h ss pages blocks s (found_answer_of r)
     finds-upper r f n = record {
       gives = λ vs ok.
           let e = f.gives vs ok in
           e ∙ upper-round (decode h (memory ss vs pages blocks)) cap (p + 1) (omega arith) (λ z. n (e ∙ z)) ∙ search_is vs (p + 1) after;
     }
 
-    pub finds-lower : (r t : Found) → FindsLive h ss pages blocks (p + 1) cap r → found_answer_of r ≡ absent → FindsLive h ss pages blocks 0 (p + 1) t
+    pub finds-lower : (r t : Result (Maybe ℕ) Refusal) → FindsLive h ss pages blocks (p + 1) cap r → found_answer_of r ≡ absent → FindsLive h ss pages blocks 0 (p + 1) t
         → FindsRound h ss pages blocks s (found_answer_of t)
     finds-lower r t f z g = record {
       gives = λ vs ok.

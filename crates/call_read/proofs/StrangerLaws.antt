@@ -2,18 +2,19 @@
 use Rattle.std.proofs.Common.{◌≡◌, ℕ, ◌+◌, ◌-◌, ◌<◌, ◌≤◌, Bool, true, false, cond, ltb, ◌⊎◌, List, sym, refl, ap, ◌∙◌, ⊎_elim, true≢false, arith, ltb-false, ltb-true, le-ltb, lt-ltb}
 use mathlib.Core.Option.{Option, none, some}
 use native.Mathlib.Decide.{ℕ_discrete, dec_lt}
+use Rattle.std.specs.Prelude.{Ok, Err, Some, None}
 use Rattle.words.proofs.CaseLaws.{bool}
 use Rattle.words.specs.First.{first_from_of}
 use Rattle.words.proofs.FirstLaws.{first-is, first-eq}
 use Rattle.window.specs.declared.AdaptiveReceiverPacketWindow.{AdaptiveReceiverPacketWindow}
 use Rattle.window.specs.Memory.{memory, capacity, position}
+use Rattle.window.specs.declared.refusals.Refusal.{Refusal}
+use Rattle.window.specs.Refusals.{refusal_number_of}
 use Rattle.model.specs.Calls.{Answer, done, new, replaced, absent, found, pair, ended, released, refused}
 use Rattle.model.specs.Table.{Pair, pair_of, holds, sequence_of, is_stranger_of}
 use Rattle.model.specs.Window.{Window, decode, live_at}
 use Rattle.model.specs.Sound.{Sound}
 use Rattle.page_base.proofs.LiveLaws.{InPlace, live-in-place}
-use Rattle.block_search.specs.declared.walk.Found.{Found}
-use Rattle.block_search.specs.declared.walk.Found.TheVariants.{At, Nothing, Unsound}
 use Rattle.block_search.specs.Promises.{first_live, FindsLive}
 use Rattle.call_read.specs.Promises.{stranger_from, FindsStranger}
 use Rattle.call_read.proofs.RoundLaws.{not-absent, none-held}
@@ -46,9 +47,10 @@ is_found (refused k) = false
 pub not_found : (a : Answer) (s : ℕ) → is_found a ≡ false → a ≡ found s → ⊥
 not_found a s e z = true≢false (sym (ap is_found z) ∙ e)
 
-pub none-unsound : (o : Option Pair) → sequence_of o ≡ refused 7 → ⊥
-none-unsound none e = not-absent (refused 7) refl (sym e)
-none-unsound (some x) e = not_found (refused 7) x.sequence refl (sym e)
+-- no refusal is a sequence
+pub none_refused : (o : Option Pair) (k : ℕ) → sequence_of o ≡ refused k → ⊥
+none_refused none k e = not-absent (refused k) refl (sym e)
+none_refused (some x) k e = not_found (refused k) x.sequence refl (sym e)
 
 -- what stands at q and has sequence s
 pub place_is : (place : ℕ → ℕ) (q s : ℕ) (o : Option Pair) → InPlace place q o → sequence_of o ≡ found s → place s ≡ q
@@ -104,9 +106,9 @@ module _ (v : Window) (from end : ℕ) where
       (λ i. absurd (true≢false (sym ((first-is L (end - from) from).held (omega (arith, ltb-true q end i))) ∙ none-held (live_at v q) (sym (rw i at e)))))
       (λ i j a b. (first-is L (end - from) from).none j a (omega (arith, ltb-false q end i)))
 
-  live-or-none : refused 7 ≡ first_live v from end → ⊥
+  live-or-none : (k : ℕ) → refused k ≡ first_live v from end → ⊥
   unfolding first_live
-  live-or-none e = bool (ltb q end) (λ i. none-unsound (live_at v q) (sym (rw i at e))) (λ i. not-absent (refused 7) refl (rw i at e))
+  live-or-none k e = bool (ltb q end) (λ i. none_refused (live_at v q) k (sym (rw i at e))) (λ i. not-absent (refused k) refl (rw i at e))
 
 -- ---- the first stranger of a stretch; none stands from start up to `from`
 
@@ -167,16 +169,14 @@ module _ (h : AdaptiveReceiverPacketWindow) (ss pages blocks : List ℕ) (first 
 
   module _ (end from : ℕ) (t : Searched h ss pages blocks first count start from) where
     -- every position was passed
-    pub finds-none : start ≤ end → end ≤ from → FindsStranger h ss pages blocks start end first count Nothing
+    pub finds-none : start ≤ end → end ≤ from → FindsStranger h ss pages blocks start end first count (Ok None)
     finds-none l past = record {
       gives = λ vs ok. stretch-none (decode h (memory ss vs pages blocks)) first count start from end t.begun (t.nothing vs ok) past l;
     }
 
     -- the walk found no live value
-    pub finds-no-live : from ≤ end → (r : Found) → ((s : ℕ) → r ≡ At s → ⊥) → FindsLive h ss pages blocks from end r
-        → FindsStranger h ss pages blocks start end first count r
-    finds-no-live l (At s) k f = absurd (k s refl)
-    finds-no-live l Nothing k f = record {
+    pub finds-no-live : from ≤ end → FindsLive h ss pages blocks from end (Ok None) → FindsStranger h ss pages blocks start end first count (Ok None)
+    finds-no-live l f = record {
       gives = λ vs ok.
           let v = decode h (memory ss vs pages blocks) in
           stretch-none v first count start end end (omega (arith, t.begun))
@@ -186,14 +186,17 @@ module _ (h : AdaptiveReceiverPacketWindow) (ss pages blocks : List ℕ) (first 
           ])
           (omega arith) (omega (arith, t.begun));
     }
-    finds-no-live l Unsound k f = record { gives = λ vs ok. absurd (live-or-none (decode h (memory ss vs pages blocks)) from end (f.gives vs ok)) }
+
+    -- it refused, as on no sound window
+    pub finds-refused : (why : Refusal) → FindsLive h ss pages blocks from end (Err why) → FindsStranger h ss pages blocks start end first count (Err why)
+    finds-refused why f = record { gives = λ vs ok. absurd (live-or-none (decode h (memory ss vs pages blocks)) from end (refusal_number_of why) (f.gives vs ok)) }
 
     -- the walk found sequence s
-    module _ (s : ℕ) (f : FindsLive h ss pages blocks from end (At s)) where
+    module _ (s : ℕ) (f : FindsLive h ss pages blocks from end (Ok (Some s))) where
       first-at : (vs : List ℕ) → Sound (decode h (memory ss vs pages blocks)) → FirstAt (decode h (memory ss vs pages blocks)) from end s
       first-at vs ok = live_at_lem (decode h (memory ss vs pages blocks)) from end s (f.gives vs ok)
 
-      pub finds-stranger : is_stranger_of first count (some (pair_of s 0)) ≡ true → FindsStranger h ss pages blocks start end first count (At s)
+      pub finds-stranger : is_stranger_of first count (some (pair_of s 0)) ≡ true → FindsStranger h ss pages blocks start end first count (Ok (Some s))
       finds-stranger e = record {
         gives = λ vs ok. stretch-found (decode h (memory ss vs pages blocks)) first count start from end t.begun (t.nothing vs ok) s (first-at vs ok) e;
       }
@@ -207,8 +210,8 @@ module _ (h : AdaptiveReceiverPacketWindow) (ss pages blocks : List ℕ) (first 
             let a = first-at vs ok in
             is ∙ place_is (position h.window_size) a.at s (live_at v a.at) (live-in-place v ok a.at (omega (arith, a.high, below))) a.here
 
-        pub finds-outside : (q < from) ⊎ (end ≤ q) → FindsStranger h ss pages blocks start end first count Unsound
-        finds-outside o = record {
+        pub finds-outside : (q < from) ⊎ (end ≤ q) → (why : Refusal) → FindsStranger h ss pages blocks start end first count (Err why)
+        finds-outside o why = record {
           gives = λ vs ok.
               let a = first-at vs ok in
               ⊎_elim (λ l. absurd (omega (arith, l, at-is vs ok, a.low))) (λ l. absurd (omega (arith, l, at-is vs ok, a.high))) o;

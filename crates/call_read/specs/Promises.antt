@@ -1,6 +1,6 @@
 -- What the steps of the reading calls promise on a sound window; on any memory they end and stay inside the lists. Definitions only.
 -- Assumes nothing.
-use Rattle.std.specs.Prelude.{◌≡◌, ℕ, ◌+◌, ◌-◌, ◌*◌, ◌/◌, ◌%◌, ◌≤◌, ◌<◌, Bool, cond, ◌&&◌, List, ◌==◌, nat_lt, Option, Result, IfSome, unwrap_or}
+use Rattle.std.specs.Prelude.{◌≡◌, ℕ, ◌+◌, ◌-◌, ◌*◌, ◌/◌, ◌%◌, ◌<◌, Bool, cond, ◌&&◌, List, ◌==◌, nat_lt, Option, Result, IfSome, unwrap_or}
 use Rattle.std.proofs.Math.Option.{some}
 use Rattle.words.specs.First.{first_from_of, first_round}
 use Rattle.words.specs.Word.{is_set}

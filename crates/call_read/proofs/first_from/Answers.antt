@@ -24,4 +24,4 @@ returns-in-Ok c =
     let s = c.args in
     asked-meets (first_from s.sequence) (state_of s.w (memory s.sequences.now s.values.now s.pages.now s.blocks.now)) c.in-Ok.ensures _ _ c.reply.ensures refl
     (λ ok. c.find_round.ensures.gives s.values.now ok
-    ∙ from_is s.w (memory s.sequences.now s.values.now s.pages.now s.blocks.now) s.sequence c.wrapping_sub_u32-before.result c.wrapping_sub_u32-before.ensures.value)
+    ∙ from_is s.w (memory s.sequences.now s.values.now s.pages.now s.blocks.now) s.sequence _ (omega arith))
