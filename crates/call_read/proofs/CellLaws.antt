@@ -9,7 +9,7 @@ use Rattle.words.specs.Word.{bit_at, is_set}
 use Rattle.words.proofs.BitLaws.{bit-lt, bit-none}
 use Rattle.window.specs.declared.AdaptiveReceiverPacketWindow.{AdaptiveReceiverPacketWindow}
 use Rattle.window.specs.Memory.{Memory, memory, capacity, page_count_of}
-use Rattle.window.proofs.MemoryLaws.{capacity-pages}
+use Rattle.window.proofs.MemoryLaws.{capacity-le, capacity-pages}
 use Rattle.model.specs.Window.{Page, decode, is_retired, in_use, is_reached, reads_of}
 use Rattle.model.specs.Sound.{Sound}
 use Rattle.page_base.specs.Page.{words_at, part_of, page, Placed}
@@ -174,3 +174,6 @@ module _ (h : AdaptiveReceiverPacketWindow) (pages blocks : List ℕ) (start end
       → NoneBefore pages blocks h.retired_blocks start end (b + 1)
   none-next b t (Some c) e n = absurd (true≢false n)
   none-next b t None e n = none_after b end t e (omega arith)
+
+-- what the tactics know of a walk over the blocks
+pub ruleset walking = (none-begins, none-next, at_bounds, capacity-pages, capacity-le)

@@ -13,6 +13,7 @@ use Rattle.model.specs.Sound.{Sound}
 use Rattle.page_base.specs.declared.PageWords.{PageWords}
 use Rattle.page_base.specs.Page.{words_at, part_of, page, Placed}
 use Rattle.page_base.specs.Promises.{read_answer_of, read_of, Reads}
+use Rattle.page_base.proofs.PartLaws.{part_length}
 use Rattle.page_base.proofs.LiveLaws.{page-placed, live-none, live-is}
 use Rattle.call_base.specs.Promises.{Reachable}
 use Rattle.call_base.proofs.FitLaws.{sequence-bounds}
@@ -46,3 +47,6 @@ module _ (h : AdaptiveReceiverPacketWindow) (ss vs pages blocks : List ℕ) (s p
       ∙ ap (λ (j : ℕ). value_if s (stands_at (page (words_at pages g) (part_of g ss) (part_of g vs)) j)) (sym slot)
       ∙ ap (λ (o : Option Pair). value_if s o) (sym live)
       ∙ ap (λ (q : ℕ). value_if s (live_at (decode h m) q)) e
+
+-- what the tactics know of the page of a sequence's position
+pub ruleset reading = (sequence-bounds, part_length, get_absent, get-read)

@@ -1,6 +1,7 @@
 -- iter, over plain variables: the pair of the next reachable cell, or done, with the reads. Assumes nothing.
 use Rattle.std.proofs.Common.{◌≡◌, ℕ, ◌+◌, ◌-◌, ◌*◌, ◌/◌, ◌%◌, ◌<◌, ◌≤◌, cond, ltb, List, get_or, sym, refl, ap, ◌∙◌, arith, le-ltb, lt-ltb}
 use Rattle.std.specs.Prelude.{Option, Some, None, unwrap_or}
+use Rattle.window.proofs.MemoryLaws.{capacity-le}
 use Rattle.words.specs.First.{first_from_of}
 use Rattle.words.proofs.FirstLaws.{first-eq}
 use Rattle.window.specs.declared.AdaptiveReceiverPacketWindow.{AdaptiveReceiverPacketWindow}
@@ -72,3 +73,6 @@ pair-at h m q l =
 pub capacity-is : (h : AdaptiveReceiverPacketWindow) (m : Memory) → capacity h.window_size ≡ capacity_of (decode h m)
 unfolding decode
 capacity-is h m = refl
+
+-- what the tactics know of the next cell
+pub ruleset iterating = (iter-past, iter-none, iter-some, pair-at, capacity-is, capacity-le)

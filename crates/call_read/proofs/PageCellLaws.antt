@@ -188,3 +188,6 @@ module _ (pages : List ℕ) (live b start end : ℕ) (some : start < end) where
                   | no s ↦ known.none q a (omega (arith, r.1)) k ((lowest-is left 0 (omega arith)).none (q / 64 % 64) (omega arith) (omega (arith, k, cell-lt, page-below)))
                 ]);
           })
+
+-- what the tactics know of one page
+pub ruleset paging = (page-dead, page-live, page-empty)

@@ -10,7 +10,7 @@ use Rattle.words.specs.First.{first_from_of, first_round}
 use Rattle.words.proofs.FirstLaws.{first-is, first-eq, round_up, round-low, round-end}
 use Rattle.window.specs.declared.AdaptiveReceiverPacketWindow.{AdaptiveReceiverPacketWindow}
 use Rattle.window.specs.Memory.{memory, capacity, position}
-use Rattle.window.proofs.MemoryLaws.{position-lt}
+use Rattle.window.proofs.MemoryLaws.{capacity-le, position-lt}
 use Rattle.model.specs.Calls.{Answer, absent}
 use Rattle.model.specs.Table.{covers, sequence_of, is_stranger_of}
 use Rattle.model.specs.Window.{Window, decode, size_of, capacity_of, live_at}
@@ -18,7 +18,7 @@ use Rattle.model.specs.Sound.{Sound}
 use Rattle.window.specs.declared.refusals.Refusal.{Refusal}
 use Rattle.block_search.specs.Promises.{found_answer_of}
 use Rattle.call_read.specs.Promises.{stranger_from, FindsStranger, stranger_position, stranger_in_range, FindsInRange}
-use Rattle.call_read.proofs.RoundLaws.{none-held, at_in, at-past}
+use Rattle.call_read.proofs.RoundLaws.{none-held, at_in, at-past, something, some_refusal}
 use Rattle.call_read.proofs.StrangerLaws.{none-stranger}
 
 -- ---- the positions of a range
@@ -220,3 +220,6 @@ module _ (h : AdaptiveReceiverPacketWindow) (ss pages blocks : List ℕ) (first 
           let v = decode h (memory ss vs pages blocks) in
           g.gives vs ok ∙ (λ i. stranger_from v 0 (es i + count - ec i) first count) ∙ second-stretch v first count below few (omega arith) (sym (first-is-so vs ok) ∙ z);
     }
+
+-- what the tactics know of a range
+pub ruleset ranging = (finds-one, finds-first, finds-second, something, some_refusal, capacity-le, position-lt)

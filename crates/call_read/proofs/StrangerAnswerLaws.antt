@@ -1,7 +1,9 @@
 -- The pair of a sequence that a search found, and stranger's answer, over plain variables. Assumes nothing.
 use Rattle.std.proofs.Common.{◌≡◌, ℕ, ◌<◌, cond, ltb, sym, refl, ap, ◌∙◌, ltb-true, eq-eqb}
 use mathlib.Core.Option.{Option, none, some}
-use Rattle.std.specs.Prelude.{Result, Ok, Err, Option as Maybe, Some, None}
+use Rattle.std.specs.Prelude.{Result, Ok, Err, Option as Maybe, Some}
+use Rattle.window.proofs.MemoryLaws.{size-le}
+use Rattle.model.proofs.KeepLaws.{count-some}
 use Rattle.words.proofs.CaseLaws.{bool}
 use Rattle.window.specs.declared.AdaptiveReceiverPacketWindow.{AdaptiveReceiverPacketWindow}
 use Rattle.window.specs.declared.answers.Answer.{Answer}
@@ -52,19 +54,7 @@ module _ (h : AdaptiveReceiverPacketWindow) (m : Memory) (s : ℕ) (a : Answer) 
 
 -- ---- the answer, by what the search found
 
-none-pair : (o : Option table.Pair) → absent ≡ sequence_of o → absent ≡ pair_answer_of o
-none-pair none e = refl
-none-pair (some x) e = absurd (not-absent (found x.sequence) refl (sym e))
-
 module _ (h : AdaptiveReceiverPacketWindow) (m : Memory) where
-  pub gives-absent : GivesFound h m (Ok None) absent
-  gives-absent = record {
-    gives = λ ok q e.
-        bool (ltb q (capacity_of (decode h m)))
-        (λ i. rw i (none-pair (live_at (decode h m) q) (rw i at e)))
-        (λ i. rw i refl);
-  }
-
   pub gives_refused : (why : Refusal) → GivesFound h m (Err why) (answer_of (Err why))
   gives_refused why = record {
     gives = λ ok q e.
@@ -99,3 +89,6 @@ stranger-is h m first last count is r a f g ok =
     let v = decode h m in
     g.gives ok (stranger_position v first count) (f.gives m.values ok)
     ∙ ap (λ (n : ℕ). cond (ltb (stranger_position v first n) (capacity_of v)) (pair_answer_of (live_at v (stranger_position v first n))) absent) is
+
+-- what the tactics know of the pair of a sequence, and of a range
+pub ruleset answering = (gives-pair, gives_none, gives_found, gives_refused, size-le, count-some)

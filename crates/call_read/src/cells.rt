@@ -34,6 +34,7 @@ fn enter_block(blocks: &[u64], retired_blocks: u64, block: usize, reads: u32) ->
 }
 
 // The first cell in use of page `page` from its cell `from` on, if it is one of the live pages of its block.
+#[tactic(auto, using(crate::proofs::PageCellLaws::paging))]
 fn cell_in_page(pages: &[u64], live: u64, page: usize, from: usize) -> Option<usize>
     requires { (page < 1024) × (from < 64) × RowIn words_per_page page pages.now }
     ensures within { IfSome result (λ c. c < 64) }
@@ -73,6 +74,7 @@ fn cell_in_block(pages: &[u64], live: u64, block: usize, start: usize, end: usiz
 }
 
 // The first reachable cell from `start` up to `end`, block by block, from that of `start`, which was entered.
+#[tactic(auto, using(crate::proofs::CellLaws::walking))]
 fn walk_blocks(
     w: AdaptiveReceiverPacketWindow,
     pages: &[u64],
@@ -106,6 +108,7 @@ fn walk_blocks(
 
 // The first reachable cell from `start` up to `end`, which is the capacity. Most often it is in the page
 // of `start`, which is looked at first.
+#[tactic(auto, using(crate::proofs::CellLaws::walking))]
 pub fn next_cell(
     w: AdaptiveReceiverPacketWindow,
     pages: &[u64],

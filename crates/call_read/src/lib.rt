@@ -22,6 +22,7 @@ use window::answers::{Answer, Step};
 use window::memory::{PAGE_SLOTS, capacity, position};
 
 // The value of the sequence.
+#[tactic(auto, using(crate::proofs::GetLaws::reading))]
 pub fn value_of(
     w: AdaptiveReceiverPacketWindow,
     sequences: &[u32],
@@ -133,6 +134,7 @@ pub fn first_from(
 }
 
 // The next reachable pair from a cell number on, with the cell after it, or done; and how many retired words were read.
+#[tactic(auto, using(crate::proofs::IterLaws::iterating))]
 fn next_pair(
     w: AdaptiveReceiverPacketWindow,
     sequences: &[u32],

@@ -58,6 +58,7 @@ fn find_stranger(
 }
 
 // The sequence of the first stranger at `count` positions in a row from first's: up to the capacity, and then from 0.
+#[tactic(auto, using(crate::proofs::RangeStrangerLaws::ranging))]
 fn find_in_range(
     w: AdaptiveReceiverPacketWindow,
     sequences: &[u32],
@@ -83,6 +84,7 @@ fn find_in_range(
 }
 
 // The pair of a sequence that a search found.
+#[tactic(auto, using(crate::proofs::StrangerAnswerLaws::answering))]
 fn pair_answer(
     w: AdaptiveReceiverPacketWindow,
     sequences: &[u32],
@@ -101,6 +103,7 @@ fn pair_answer(
 }
 
 // The answer for what a search found: the pair, or none.
+#[tactic(auto, using(crate::proofs::StrangerAnswerLaws::answering))]
 fn stranger_answer(
     w: AdaptiveReceiverPacketWindow,
     sequences: &[u32],
@@ -119,6 +122,7 @@ fn stranger_answer(
 }
 
 // The first stranger of a range that is not refused.
+#[tactic(auto, using(crate::proofs::StrangerAnswerLaws::answering))]
 fn first_stranger(
     w: AdaptiveReceiverPacketWindow,
     sequences: &[u32],

@@ -1,7 +1,6 @@
 -- The cell that the page of the start gives, or what the walk gives (own-cell). Assumes nothing.
 use Rattle.std.proofs.Common.{◌≡◌, ℕ, ◌+◌, ◌*◌, ◌/◌, ◌%◌, List, sym, ap, ◌∙◌, subst, arith}
 use Rattle.std.specs.Prelude.{Some}
-use Rattle.call_base.proofs.FitLaws.{at_bounds}
 use Rattle.call_read.specs.declared.cells.Entered.{Entered}
 use Rattle.call_read.specs.Promises.{entered_at, cell_in_page_of, FindsCell}
 use Rattle.call_read.proofs.CellLaws.{own-cell}
@@ -12,16 +11,6 @@ own-is : (blocks : List ℕ) (retired_blocks start : ℕ) (own : Entered) → ow
 own-is blocks retired_blocks start own e =
     let b : start / 64 / 64 ≡ start / 4096 = omega arith in
     e ∙ ap (λ (x : ℕ). entered_at blocks retired_blocks x 0) b
-
-pub enter_block-own-requires : goal.enter_block-own-requires
-enter_block-own-requires c =
-    let p = at_bounds c.args.w.window_size c.args.start (omega (arith, c.requires.window_size_bound.1, c.requires.window_size_bound.2)) in
-    (omega (arith, p.page-fits), omega (arith, p.block_words, c.requires.window_size_in_bounds.1), omega arith)
-
-pub cell_in_page-requires : goal.cell_in_page-requires
-cell_in_page-requires c =
-    let p = at_bounds c.args.w.window_size c.args.start (omega (arith, c.requires.window_size_bound.1, c.requires.window_size_bound.2)) in
-    (p.page-fits, omega arith, omega (arith, p.words, c.requires.window_size_in_bounds.0))
 
 pub returns-in-Some : goal.returns-in-Some
 returns-in-Some c =

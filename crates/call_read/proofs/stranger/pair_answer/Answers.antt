@@ -1,13 +1,8 @@
 -- What value_of found is the pair's value (gives-pair); on a sound window it finds one (gives_none). Assumes nothing.
 use Rattle.window.specs.Memory.{memory}
 use Rattle.window.specs.declared.refusals.Refusal.TheVariants.{Unsound}
-use Rattle.call_read.proofs.StrangerAnswerLaws.{gives-pair, gives_none}
+use Rattle.call_read.proofs.StrangerAnswerLaws.{gives_none}
 use Rattle.call_read.proofs.stranger.pair_answer.Goals as goal
-
-pub returns-in-Found : goal.returns-in-Found
-returns-in-Found c =
-    let s = c.args in
-    gives-pair s.w (memory s.sequences.now s.values.now s.pages.now s.blocks.now) s.sequence c.value_of.result c.value_of.ensures _ c.in-Found.is
 
 pub returns-in_default : goal.returns-in_default
 returns-in_default c =
