@@ -1,5 +1,5 @@
 -- release_retired, over plain variables. Assumes nothing.
-use Rattle.std.proofs.Common.{◌≡◌, ℕ, ◌≤◌, true, List, [], length, sym, refl, ap, ◌∙◌, arith}
+use Rattle.std.proofs.Common.{Ok, ◌≡◌, ℕ, ◌≤◌, true, List, [], length, sym, refl, ap, ◌∙◌, arith}
 use Rattle.window.specs.declared.AdaptiveReceiverPacketWindow.{AdaptiveReceiverPacketWindow}
 use Rattle.window.specs.declared.answers.Answer.TheVariants.{Released}
 use Rattle.window.specs.Memory.{Memory, memory}
@@ -74,7 +74,7 @@ module _ (h : AdaptiveReceiverPacketWindow) (m : Memory) (l : List ℕ) (budget 
   unfolding decode
   none-given ok = sym (none-released (decode h m) budget ok none)
 
-  pub none-fills : Fills (λ (w : Window). release_step w budget) (state_of h m) l (left_of (replied h (Released 0 0)) m l)
+  pub none-fills : Fills (λ (w : Window). release_step w budget) (state_of h m) l (left_of (replied h (Ok (Released 0 0))) m l)
   none-fills = record {
     wrote = wrote_none 0 l;
     few = omega arith;

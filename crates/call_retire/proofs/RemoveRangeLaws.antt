@@ -36,8 +36,6 @@ use Rattle.call_retire.specs.Finish.{finished}
 use Rattle.call_retire.specs.Range.{aimed, readied, retire_ready}
 use Rattle.call_retire.proofs.FinishLaws.{words-past, words-lengths, finished-fills}
 
--- ---- the call, with its arguments taken
-
 -- ---- the window made ready
 
 module _ (held start : ℕ) where

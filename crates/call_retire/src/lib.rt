@@ -16,25 +16,17 @@ use window::answers::{Answer, Outcome, Step};
 use window::refusals::Refusal;
 
 // The outcome of a call that put `count` values into its list: the answer, or refusal 7 where it met an unsound state.
+#[tactic(auto, unfolding(crate::specs::Finish::finished))]
 pub fn finish(w: AdaptiveReceiverPacketWindow, answer: Answer, count: usize, sound: bool) -> Step
     requires { count ≤ 384 }
     ensures { result ≡ finished w answer count sound }
 {
-    let returned = count as u32;
-    if !sound {
-        return Step {
-            window: w,
-            answer: Outcome {
-                answer: Err(Refusal::Unsound),
-                count: returned,
-            },
-        };
-    }
+    let answer = if sound { Ok(answer) } else { Err(Refusal::Unsound) };
     Step {
         window: w,
         answer: Outcome {
-            answer: Ok(answer),
-            count: returned,
+            answer,
+            count: count as u32,
         },
     }
 }
@@ -43,10 +35,8 @@ pub fn finish(w: AdaptiveReceiverPacketWindow, answer: Answer, count: usize, sou
 pub fn cleared(step: Step) -> Step
     ensures { result ≡ cleared_step step }
 {
-    let left = step.window;
-    let answer = step.answer;
     Step {
-        window: after_clear(left),
-        answer,
+        window: after_clear(step.window),
+        answer: step.answer,
     }
 }

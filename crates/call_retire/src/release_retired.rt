@@ -31,10 +31,8 @@ pub fn release_retired(
         Arguments::Number(budget),
     ) {
         Ok(()) => {
-            if w.retired_held == 0 {
-                if w.retired_blocks == 0 {
-                    return reply(w, Ok(Answer::Released(0, 0)));
-                }
+            if w.retired_held == 0 && w.retired_blocks == 0 {
+                return reply(w, Ok(Answer::Released(0, 0)));
             }
             let limit = budget as usize;
             let visited = release_visit::release_retired(

@@ -52,8 +52,7 @@ fn retire(
     ensures { Performs (λ v. retire_ready v start count) 128 w (found_in (lent_mut sequences) (lent_mut values) (lent_mut pages) (lent_mut blocks)) 0 returned.old result (left_in (lent_mut sequences) (lent_mut values) (lent_mut pages) (lent_mut blocks)) returned.new }
 {
     let retired = retire_range(w, sequences, values, pages, blocks, returned, start, count);
-    let left = retired.window;
-    let window = ready(left, w.retired_held, start);
+    let window = ready(retired.window, w.retired_held, start);
     Retired {
         window,
         count: retired.count,
@@ -104,11 +103,9 @@ fn keep_point(step: Step, size: u32, first: u32, count: usize) -> Step
     requires { (size ≤ 65536) × (count ≤ capacity size) }
     ensures { KeepsRange size first count step result }
 {
-    let left = step.window;
-    let answer = step.answer;
     Step {
-        window: after_range(left, size, first, count),
-        answer,
+        window: after_range(step.window, size, first, count),
+        answer: step.answer,
     }
 }
 

@@ -8,7 +8,7 @@ use Rattle.call_base.proofs.MeetsLaws.{refusal-meets, admitted-fits, admitted-pl
 use Rattle.call_retire.proofs.DoesLaws.{clear-does}
 use Rattle.call_retire.proofs.AcknowledgeLaws.{clear-acts}
 use Rattle.call_retire.proofs.clear.clear.Goals as goal
-use Rattle.call_retire.proofs.clear.clear.Goals.{In_default}
+use Rattle.call_retire.proofs.clear.clear.Goals.{In-Ok}
 
 pub returns-in-Err : goal.returns-in-Err
 returns-in-Err c =
@@ -17,20 +17,20 @@ returns-in-Err c =
     s.returned.now _ _ c.in-Err.ensures c.refuse.ensures
 
 -- past the refusals
-fit : (c : In_default) → let s = c.args in ListsFit s.w s.sequences.now s.values.now s.pages.now s.blocks.now
+fit : (c : In-Ok) → let s = c.args in ListsFit s.w s.sequences.now s.values.now s.pages.now s.blocks.now
 fit c =
     let s = c.args in
     admitted-fits (clear (leb 384 (length s.returned.now))) (state_of s.w (memory s.sequences.now s.values.now s.pages.now s.blocks.now)) (length s.returned.now) refl
     c.in-Ok.ensures
 
-long : (c : In_default) → 384 ≤ length c.args.returned.now
+long : (c : In-Ok) → 384 ≤ length c.args.returned.now
 long c =
     let s = c.args in
     admitted-places (clear (leb 384 (length s.returned.now))) (state_of s.w (memory s.sequences.now s.values.now s.pages.now s.blocks.now)) (length s.returned.now) refl
     c.in-Ok.ensures
 
 pub clear_all-step-requires : goal.clear_all-step-requires
-clear_all-step-requires c = let at = (goal.at.clear_all-step-requires c).In_default in (fit at, long at)
+clear_all-step-requires c = let at = (goal.at.clear_all-step-requires c).In-Ok in (fit at, long at)
 
 pub returns-in-Ok : goal.returns-in-Ok
 returns-in-Ok c =

@@ -10,7 +10,7 @@ use Rattle.call_base.proofs.RangeLaws.{number-taken}
 use Rattle.call_retire.proofs.DoesLaws.{clear-bounded-does}
 use Rattle.call_retire.proofs.AcknowledgeLaws.{bounded-acts}
 use Rattle.call_retire.proofs.clear_bounded.clear_bounded.Goals as goal
-use Rattle.call_retire.proofs.clear_bounded.clear_bounded.Goals.{In_default}
+use Rattle.call_retire.proofs.clear_bounded.clear_bounded.Goals.{In-Ok}
 
 pub returns-in-Err : goal.returns-in-Err
 returns-in-Err c =
@@ -19,19 +19,19 @@ returns-in-Err c =
     s.returned.now _ _ c.in-Err.ensures c.refuse.ensures
 
 -- past the refusals
-fit : (c : In_default) → let s = c.args in ListsFit s.w s.sequences.now s.values.now s.pages.now s.blocks.now
+fit : (c : In-Ok) → let s = c.args in ListsFit s.w s.sequences.now s.values.now s.pages.now s.blocks.now
 fit c =
     let s = c.args in
     admitted-fits (clear_bounded s.number (leb 384 (length s.returned.now))) (state_of s.w (memory s.sequences.now s.values.now s.pages.now s.blocks.now)) (length s.returned.now) refl
     c.in-Ok.ensures
 
-long : (c : In_default) → 384 ≤ length c.args.returned.now
+long : (c : In-Ok) → 384 ≤ length c.args.returned.now
 long c =
     let s = c.args in
     admitted-places (clear_bounded s.number (leb 384 (length s.returned.now))) (state_of s.w (memory s.sequences.now s.values.now s.pages.now s.blocks.now)) (length s.returned.now) refl
     c.in-Ok.ensures
 
-few : (c : In_default) → c.args.number ≤ 256
+few : (c : In-Ok) → c.args.number ≤ 256
 few c =
     let s = c.args in
     number-taken (known_by s.w) s.number
@@ -39,7 +39,7 @@ few c =
     c.in-Ok.ensures)
 
 pub clear_some-step-requires : goal.clear_some-step-requires
-clear_some-step-requires c = let at = (goal.at.clear_some-step-requires c).In_default in (fit at, long at, few at)
+clear_some-step-requires c = let at = (goal.at.clear_some-step-requires c).In-Ok in (fit at, long at, few at)
 
 pub returns-in-Ok : goal.returns-in-Ok
 returns-in-Ok c =

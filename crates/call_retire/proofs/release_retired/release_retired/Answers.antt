@@ -15,7 +15,7 @@ use Rattle.call_retire.proofs.DoesLaws.{release-does}
 use Rattle.call_retire.proofs.AcknowledgeLaws.{release-acts}
 use Rattle.call_retire.proofs.ReleaseLaws.{none-fills, release-fills}
 use Rattle.call_retire.proofs.release_retired.release_retired.Goals as goal
-use Rattle.call_retire.proofs.release_retired.release_retired.Goals.{In_default}
+use Rattle.call_retire.proofs.release_retired.release_retired.Goals.{In-Ok}
 
 pub returns-in-Err : goal.returns-in-Err
 returns-in-Err c =
@@ -24,19 +24,19 @@ returns-in-Err c =
     s.returned.now _ _ c.in-Err.ensures c.refuse.ensures
 
 -- past the refusals
-fit : (c : In_default) → let s = c.args in ListsFit s.w s.sequences.now s.values.now s.pages.now s.blocks.now
+fit : (c : In-Ok) → let s = c.args in ListsFit s.w s.sequences.now s.values.now s.pages.now s.blocks.now
 fit c =
     let s = c.args in
     admitted-fits (release_retired s.budget (leb 384 (length s.returned.now))) (state_of s.w (memory s.sequences.now s.values.now s.pages.now s.blocks.now)) (length s.returned.now) refl
     c.in-Ok.ensures
 
-long : (c : In_default) → 384 ≤ length c.args.returned.now
+long : (c : In-Ok) → 384 ≤ length c.args.returned.now
 long c =
     let s = c.args in
     admitted-places (release_retired s.budget (leb 384 (length s.returned.now))) (state_of s.w (memory s.sequences.now s.values.now s.pages.now s.blocks.now)) (length s.returned.now) refl
     c.in-Ok.ensures
 
-few : (c : In_default) → c.args.budget ≤ 256
+few : (c : In-Ok) → c.args.budget ≤ 256
 few c =
     let s = c.args in
     number-taken (known_by s.w) s.budget
@@ -58,7 +58,7 @@ returns-then-w-eq0-2 c =
 -- a visit
 pub release_retired-visited-requires : goal.release_retired-visited-requires
 release_retired-visited-requires c =
-    let at = (goal.at.release_retired-visited-requires c).In_default in
+    let at = (goal.at.release_retired-visited-requires c).In-Ok in
     let f = fit at in
     record {
       window_size_bound = (f.within.size_high, omega (arith, f.within.n_high), few at, omega (arith, long at, few at));
@@ -69,22 +69,22 @@ release_retired-visited-requires c =
 pub overflow_cast-answer : goal.overflow_cast-answer
 overflow_cast-answer c =
     let p = c.release_retired-visited.ensures in
-    omega (arith, p.few, p.paid, few (goal.at.overflow_cast-answer c).In_default)
+    omega (arith, p.few, p.paid, few (goal.at.overflow_cast-answer c).In-Ok)
 
-pub overflow_cast-answer-2 : goal.overflow_cast-answer-2
-overflow_cast-answer-2 c =
-    omega (arith, c.release_retired-visited.ensures.paid, few (goal.at.overflow_cast-answer-2 c).In_default)
+pub overflow_cast-answer-in-Ok : goal.overflow_cast-answer-in-Ok
+overflow_cast-answer-in-Ok c =
+    omega (arith, c.release_retired-visited.ensures.paid, few (goal.at.overflow_cast-answer-in-Ok c).In-Ok)
 
 pub finish-requires : goal.finish-requires
 finish-requires c =
     let p = c.release_retired-visited.ensures in
-    omega (arith, p.few, p.paid, few (goal.at.finish-requires c).In_default)
+    omega (arith, p.few, p.paid, few (goal.at.finish-requires c).In-Ok)
 
-pub returns-in-Ok : goal.returns-in-Ok
-returns-in-Ok c =
+pub returns-else-w-eq0 : goal.returns-else-w-eq0
+returns-else-w-eq0 c =
     let s = c.args in
     let t = c.release_retired-visited in
-    let at = (goal.at.returns c).In_default in
+    let at = (goal.at.returns-else-w-eq0 c).In-Ok in
     filled-meets (release_retired s.budget (leb 384 (length s.returned.now))) (state_of s.w (memory s.sequences.now s.values.now s.pages.now s.blocks.now)) (length s.returned.now) refl
     c.in-Ok.ensures s.returned.now _ _ refl refl
     _ (release-does s.w (memory s.sequences.now s.values.now s.pages.now s.blocks.now) s.budget (leb 384 (length s.returned.now)))

@@ -1,4 +1,4 @@
-use Rattle.std.proofs.Common.{◌≡◌, ℕ, ◌+◌, ◌≤◌, Bool, sym, ◌∙◌, subst, ap₂, arith}
+use Rattle.std.proofs.Common.{◌≡◌, ℕ, ◌+◌, ◌-◌, ◌%◌, ◌^◌, ◌≤◌, Bool, sym, ◌∙◌, subst, ap₂, arith}
 use mathlib.Core.Bool.{and-true}
 use Rattle.window.specs.declared.answers.Step.{Step}
 use Rattle.window.specs.declared.answers.Answer.TheVariants.{Found}
@@ -26,15 +26,15 @@ returns-then-left-eq0 c =
     let s = c.args in
     let t = c.retire-retired in
     let m = t.new in
-    let d = c.wrapping_sub_u32-removed in
+    let removed = (s.w.len + (2 ^ 32 - t.result.window.len)) % 2 ^ 32 in
     let start = c.requires.start_bound in
     let n : t.result.count + 0 ≡ t.result.count = omega arith in
     let none = none-visits t.result.window m.sequences m.values m.pages m.blocks m.returned t.result.count 256 c.if-left-eq0.true in
     subst (λ (y : Step). Fills (λ (v : Window). range_step v s.start s.count) (state_of s.w (memory s.sequences.now s.values.now s.pages.now s.blocks.now)) s.returned.now
     (left_of y (memory m.sequences m.values m.pages m.blocks) m.returned))
-    (ap₂ (λ (x : ℕ) (b : Bool). finished t.result.window (Found d.result) x b) n (and-true t.result.sound) ∙ sym c.finish.ensures)
+    (ap₂ (λ (x : ℕ) (b : Bool). finished t.result.window (Found removed) x b) n (and-true t.result.sound) ∙ sym c.finish.ensures)
     (range-fills s.w s.sequences.now s.values.now s.pages.now s.blocks.now s.returned.now s.start s.count start.0 start.1 start.2
-    t.result _ _ _ _ _ t.ensures (none_visited t.result.window) _ _ _ none d.result (omega arith) d.ensures.value)
+    t.result _ _ _ _ _ t.ensures (none_visited t.result.window) _ _ _ none removed (omega arith) (omega arith))
 
 pub release_retired-visited-requires : goal.release_retired-visited-requires
 release_retired-visited-requires c =
@@ -74,9 +74,8 @@ returns c =
     let s = c.args in
     let t = c.retire-retired in
     let u = c.release_retired-visited in
-    let d = c.wrapping_sub_u32-removed in
     let start = c.requires.start_bound in
     subst (λ (y : Step). Fills (λ (v : Window). range_step v s.start s.count) (state_of s.w (memory s.sequences.now s.values.now s.pages.now s.blocks.now)) s.returned.now
     (left_of y (memory t.new.sequences t.new.values u.new.pages u.new.blocks) u.new.returned)) (sym c.finish-2.ensures)
     (range-fills s.w s.sequences.now s.values.now s.pages.now s.blocks.now s.returned.now s.start s.count start.0 start.1 start.2
-    t.result _ _ _ _ _ t.ensures u.result _ _ _ u.ensures d.result (omega arith) d.ensures.value)
+    t.result _ _ _ _ _ t.ensures u.result _ _ _ u.ensures _ (omega arith) (omega arith))

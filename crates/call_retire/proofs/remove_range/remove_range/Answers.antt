@@ -15,7 +15,7 @@ use Rattle.call_base.proofs.RangeLaws.{count-taken}
 use Rattle.call_retire.proofs.DoesLaws.{range-does}
 use Rattle.call_retire.proofs.AcknowledgeLaws.{range-acts}
 use Rattle.call_retire.proofs.remove_range.remove_range.Goals as goal
-use Rattle.call_retire.proofs.remove_range.remove_range.Goals.{In_default}
+use Rattle.call_retire.proofs.remove_range.remove_range.Goals.{In-Ok}
 
 pub returns-in-Err : goal.returns-in-Err
 returns-in-Err c =
@@ -24,19 +24,19 @@ returns-in-Err c =
     s.returned.now _ _ c.in-Err.ensures c.refuse.ensures
 
 -- past the refusals
-fit : (c : In_default) → let s = c.args in ListsFit s.w s.sequences.now s.values.now s.pages.now s.blocks.now
+fit : (c : In-Ok) → let s = c.args in ListsFit s.w s.sequences.now s.values.now s.pages.now s.blocks.now
 fit c =
     let s = c.args in
     admitted-fits (remove_range s.first s.last (leb 384 (length s.returned.now))) (state_of s.w (memory s.sequences.now s.values.now s.pages.now s.blocks.now)) (length s.returned.now) refl
     c.in-Ok.ensures
 
-long : (c : In_default) → 384 ≤ length c.args.returned.now
+long : (c : In-Ok) → 384 ≤ length c.args.returned.now
 long c =
     let s = c.args in
     admitted-places (remove_range s.first s.last (leb 384 (length s.returned.now))) (state_of s.w (memory s.sequences.now s.values.now s.pages.now s.blocks.now)) (length s.returned.now) refl
     c.in-Ok.ensures
 
-few : (c : In_default) → let s = c.args in range_count_of s.first s.last ≤ s.w.window_size
+few : (c : In-Ok) → let s = c.args in range_count_of s.first s.last ≤ s.w.window_size
 few c =
     let s = c.args in
     count-taken (known_by s.w) s.first s.last
@@ -44,12 +44,12 @@ few c =
     c.in-Ok.ensures)
 
 pub position-start-requires : goal.position-start-requires
-position-start-requires c = (fit (goal.at.position-start-requires c).In_default).within.size_high
+position-start-requires c = (fit (goal.at.position-start-requires c).In-Ok).within.size_high
 
 pub remove_positions-step-requires : goal.remove_positions-step-requires
 remove_positions-step-requires c =
     let s = c.args in
-    let at = (goal.at.remove_positions-step-requires c).In_default in
+    let at = (goal.at.remove_positions-step-requires c).In-Ok in
     let f = fit at in
     let size = s.w.window_size in
     record {
@@ -64,7 +64,7 @@ remove_positions-step-requires c =
 
 pub keep_point-requires : goal.keep_point-requires
 keep_point-requires c =
-    let at = (goal.at.keep_point-requires c).In_default in
+    let at = (goal.at.keep_point-requires c).In-Ok in
     let f = fit at in
     (f.within.size_high, omega (arith, c.range_count-count.ensures, few at, size-le c.args.w.window_size f.within.size_high))
 
