@@ -1,5 +1,5 @@
 -- remove_range, over plain variables: a range retired, the window made ready, and a release visit. Assumes nothing.
-use Rattle.std.proofs.Common.{◌≡◌, ℕ, ◌+◌, ◌/◌, ◌%◌, ◌^◌, ◌<◌, ◌≤◌, ◌&&◌, eqb, List, ◌++◌, sym, refl, ap, ◌∙◌, subst, arith, eq-eqb, ne_eqb}
+use Rattle.std.proofs.Common.{◌≡◌, ℕ, ◌+◌, ◌/◌, ◌%◌, ◌^◌, ◌<◌, ◌≤◌, ◌&&◌, eqb, List, ◌++◌, sym, refl, ap, ◌∙◌, subst, arith}
 use Rattle.words.proofs.CaseLaws.{bool}
 use Rattle.window.specs.declared.AdaptiveReceiverPacketWindow.{AdaptiveReceiverPacketWindow}
 use Rattle.window.specs.declared.answers.Answer.TheVariants.{Found}
@@ -8,7 +8,7 @@ use Rattle.window.proofs.MemoryLaws.{capacity-pages, capacity-le}
 use Rattle.model.specs.Calls.{found}
 use Rattle.model.specs.Table.{held_in_range}
 use Rattle.model.specs.Window.{Window, window, no_page, no_block, decode, capacity_of, pages_of, live_at}
-use Rattle.model.specs.Steps.{with_header, set_cursor, drop_block_marks, Release, release_of, release, retire_range_of, effect, range_step}
+use Rattle.model.specs.Steps.{with_header, set_cursor, Release, release_of, release, retire_range_of, effect, range_step}
 use Rattle.model.specs.Sound.{Sound}
 use Rattle.page_base.proofs.DecodeLaws.{header_at}
 use Rattle.page_remove.specs.Promises.{Wrote, stretch}
@@ -63,19 +63,8 @@ module _ (held start : ℕ) where
     unfolding readied
     ready-release b = sym (release-drop (aimed held start w) retiring-aimed b b)
 
-  -- as the code does it
+  -- as the code leaves it
   module _ (h r : AdaptiveReceiverPacketWindow) where
-    pub ready-kept : (held ≡ 0 → ⊥) → ChangesHeader drop_block_marks h r → ChangesHeader (readied held start) h r
-    unfolding readied
-    ready-kept n t = record { gives = λ v e. t.gives v e ∙ rw (ne_eqb held 0 n) refl }
-
-    pub ready-aimed : held ≡ 0 → ChangesHeader drop_block_marks (set_cursor h (start / 64)) r → ChangesHeader (readied held start) h r
-    unfolding readied
-    ready-aimed z t = record {
-      gives = λ v e.
-          t.gives (with_header v (set_cursor v.header (start / 64))) (ap (λ (x : AdaptiveReceiverPacketWindow). set_cursor x (start / 64)) e) ∙ rw (eq-eqb held 0 z) refl;
-    }
-
     changed-limits : ChangesHeader (readied held start) h r → limits_of r ≡ limits_of h
     changed-limits t =
         let any = window h (λ g. no_page) (λ b. no_block) in

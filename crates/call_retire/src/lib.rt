@@ -21,7 +21,11 @@ pub fn finish(w: AdaptiveReceiverPacketWindow, answer: Answer, count: usize, sou
     requires { count ≤ 384 }
     ensures { result ≡ finished w answer count sound }
 {
-    let answer = if sound { Ok(answer) } else { Err(Refusal::Unsound) };
+    let answer = if sound {
+        Ok(answer)
+    } else {
+        Err(Refusal::Unsound)
+    };
     Step {
         window: w,
         answer: Outcome {

@@ -24,6 +24,7 @@ use window::memory::{PAGE_SLOTS, position};
 
 // The header made ready for a release: with nothing retired before, `held`, the cursor goes to the page of `start`; with nothing
 // retired now, the block marks drop.
+#[tactic(auto, unfolding(crate::specs::Range::readied))]
 fn ready(w: AdaptiveReceiverPacketWindow, held: u32, start: usize) -> AdaptiveReceiverPacketWindow
     requires { start < 65536 }
     ensures { ChangesHeader (readied held start) w result }

@@ -1,5 +1,5 @@
 -- Everything retired, then pages released (clear-bounded-fills). Assumes nothing.
-use Rattle.std.proofs.Common.{◌≤◌, sym, subst, arith}
+use Rattle.std.proofs.Common.{sym, subst, arith}
 use Rattle.window.specs.declared.answers.Step.{Step}
 use Rattle.window.specs.Memory.{memory}
 use Rattle.model.specs.Window.{Window}
@@ -19,16 +19,6 @@ release_pages-released-requires c =
       window_size_bound = (f.within.size_high, omega (arith, f.within.n_high), omega (arith, c.requires.2), omega (arith, c.requires.1, c.requires.2));
       window_size_in_bounds = (f.long.sequences_long, f.long.values_long, f.long.pages_long, f.long.blocks_long);
     }
-
--- no more than the number, which is at most 256
-few : (c : After-release_pages-released) → c.release_pages-released.result.count ≤ 256
-few c = omega (arith, c.release_pages-released.ensures.few, c.requires.2)
-
-pub overflow_cast-answer : goal.overflow_cast-answer
-overflow_cast-answer c = omega (arith, few (goal.at.overflow_cast-answer c).After-release_pages-released)
-
-pub finish-requires : goal.finish-requires
-finish-requires c = omega (arith, few (goal.at.finish-requires c).After-release_pages-released)
 
 pub returns : goal.returns
 returns c =

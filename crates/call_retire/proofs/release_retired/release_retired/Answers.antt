@@ -65,21 +65,6 @@ release_retired-visited-requires c =
       window_size_in_bounds = (f.long.sequences_long, f.long.values_long, f.long.pages_long, f.long.blocks_long);
     }
 
--- no more units than the budget, and no more values than units
-pub overflow_cast-answer : goal.overflow_cast-answer
-overflow_cast-answer c =
-    let p = c.release_retired-visited.ensures in
-    omega (arith, p.few, p.paid, few (goal.at.overflow_cast-answer c).In-Ok)
-
-pub overflow_cast-answer-in-Ok : goal.overflow_cast-answer-in-Ok
-overflow_cast-answer-in-Ok c =
-    omega (arith, c.release_retired-visited.ensures.paid, few (goal.at.overflow_cast-answer-in-Ok c).In-Ok)
-
-pub finish-requires : goal.finish-requires
-finish-requires c =
-    let p = c.release_retired-visited.ensures in
-    omega (arith, p.few, p.paid, few (goal.at.finish-requires c).In-Ok)
-
 pub returns-else-w-eq0 : goal.returns-else-w-eq0
 returns-else-w-eq0 c =
     let s = c.args in

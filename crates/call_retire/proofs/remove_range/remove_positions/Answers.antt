@@ -1,4 +1,4 @@
-use Rattle.std.proofs.Common.{◌≡◌, ℕ, ◌+◌, ◌-◌, ◌%◌, ◌^◌, ◌≤◌, Bool, sym, ◌∙◌, subst, ap₂, arith}
+use Rattle.std.proofs.Common.{◌≡◌, ℕ, ◌+◌, ◌-◌, ◌%◌, ◌^◌, Bool, sym, ◌∙◌, subst, ap₂, arith}
 use mathlib.Core.Bool.{and-true}
 use Rattle.window.specs.declared.answers.Step.{Step}
 use Rattle.window.specs.declared.answers.Answer.TheVariants.{Found}
@@ -13,13 +13,6 @@ use Rattle.call_retire.proofs.ReleaseLaws.{none_visited, none-visits}
 use Rattle.call_retire.proofs.RemoveRangeLaws.{range-fills}
 use Rattle.call_retire.proofs.remove_range.remove_positions.Goals as goal
 use Rattle.call_retire.proofs.remove_range.remove_positions.Goals.{After-release_retired-visited}
-
--- 128 values from the range, and 256 from the release
-few : (c : After-release_retired-visited) → c.retire-retired.result.count + c.release_retired-visited.result.count ≤ 384
-few c =
-    let t = c.retire-retired.ensures in
-    let u = c.release_retired-visited.ensures in
-    omega (arith, t.few, u.few, u.paid)
 
 pub returns-then-left-eq0 : goal.returns-then-left-eq0
 returns-then-left-eq0 c =
@@ -47,27 +40,6 @@ release_retired-visited-requires c =
       window_size_bound = (f.within.size_high, omega (arith, f.within.n_high), omega arith, omega (arith, t.few, t.wrote.long, c.requires.start_bound.3));
       window_size_in_bounds = (f.long.sequences_long, f.long.values_long, f.long.pages_long, f.long.blocks_long);
     }
-
-pub overflow_add-at : goal.overflow_add-at
-overflow_add-at c = let k = few (goal.at.overflow_add-at c).After-release_retired-visited in omega (arith, k)
-
-pub finish-requires-2 : goal.finish-requires-2
-finish-requires-2 c = few (goal.at.finish-requires-2 c).After-release_retired-visited
-
-pub shape_of-sequences : goal.shape_of-sequences
-shape_of-sequences c = c.retire-retired.ensures.lengths.sequences
-
-pub shape_of-values : goal.shape_of-values
-shape_of-values c = c.retire-retired.ensures.lengths.values
-
-pub shape_of-pages : goal.shape_of-pages
-shape_of-pages c = c.release_retired-visited.ensures.within.pages_long ∙ c.retire-retired.ensures.lengths.pages
-
-pub shape_of-blocks : goal.shape_of-blocks
-shape_of-blocks c = c.release_retired-visited.ensures.within.blocks_long ∙ c.retire-retired.ensures.lengths.blocks
-
-pub shape_of-returned : goal.shape_of-returned
-shape_of-returned c = c.release_retired-visited.ensures.wrote.long ∙ c.retire-retired.ensures.wrote.long
 
 pub returns : goal.returns
 returns c =
