@@ -52,17 +52,17 @@ module _ (h : AdaptiveReceiverPacketWindow) where
 -- ---- counts
 
 module _ (h : AdaptiveReceiverPacketWindow) (pages blocks : List ℕ) (n : ℕ) (en : n ≡ page_count_of h.window_size)
-    (live : ℕ) (el : live ≡ values_where_of pages blocks h.retired_blocks 0 0 n) where
-  live-is : live ≡ values_where_of pages blocks h.retired_blocks 0 0 (page_count_of h.window_size)
-  live-is = el ∙ ap (values_where_of pages blocks h.retired_blocks 0 0) en
+    (live : ℕ) (el : live ≡ values_where_of pages blocks h.retired_blocks false 0 n) where
+  live-is : live ≡ values_where_of pages blocks h.retired_blocks false 0 (page_count_of h.window_size)
+  live-is = el ∙ ap (values_where_of pages blocks h.retired_blocks false 0) en
 
   pub len-differs : (h.len ≡ live → ⊥) → Decides (HeaderCounts h pages blocks) false
   len-differs d = decides-no (λ q. d (q.len ∙ sym live-is))
 
-  pub counts-decided : h.len ≡ live → (held : ℕ) → held ≡ values_where_of pages blocks h.retired_blocks 1 0 n
+  pub counts-decided : h.len ≡ live → (held : ℕ) → held ≡ values_where_of pages blocks h.retired_blocks true 0 n
       → Decides (HeaderCounts h pages blocks) (eqb h.retired_held held)
   counts-decided l held eh =
-      let held-is = eh ∙ ap (values_where_of pages blocks h.retired_blocks 1 0) en in
+      let held-is = eh ∙ ap (values_where_of pages blocks h.retired_blocks true 0) en in
       record {
         holds = λ b. record { len = l ∙ live-is; held = eqb-true h.retired_held held b ∙ held-is };
         fails = λ b q. eqb-false h.retired_held held b (q.held ∙ sym held-is);
