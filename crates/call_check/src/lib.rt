@@ -42,6 +42,7 @@ fn sound(w: AdaptiveReceiverPacketWindow, sequences: &[u32], pages: &[u64], bloc
 }
 
 // The answer of check.
+#[tactic(auto, using(crate::proofs::StateLaws::unsound_answer, crate::proofs::StateLaws::late_answer, crate::proofs::StateLaws::current_answer))]
 fn checked(
     w: AdaptiveReceiverPacketWindow,
     sequences: &[u32],
