@@ -29,9 +29,9 @@ module _ (h : AdaptiveReceiverPacketWindow) (pages blocks : List ℕ) (t : Bool)
       let m = memory ss vs pages blocks in
       record { len = s.len ∙ sym (live-sum h m); held = s.held ∙ sym (retired-sum h m) }
 
-  whole : (ss vs : List ℕ) → HeaderWords h → HeaderCounts h pages blocks → SoundHeader (decode h (memory ss vs pages blocks))
+  all_of : (ss vs : List ℕ) → HeaderWords h → HeaderCounts h pages blocks → SoundHeader (decode h (memory ss vs pages blocks))
   unfolding decode
-  whole ss vs w c =
+  all_of ss vs w c =
       let m = memory ss vs pages blocks in
       record {
         len = c.len ∙ live-sum h m;
@@ -42,13 +42,15 @@ module _ (h : AdaptiveReceiverPacketWindow) (pages blocks : List ℕ) (t : Bool)
         no_block_mark = w.no_block_mark;
       }
 
-  pub words-fail : t ≡ false → DecidesHeader h pages blocks false
-  words-fail e = record { is = λ ss vs. decides-no (λ s. words.fails e (words_of ss vs s)) }
+  pub words_fail : t ≡ false → DecidesHeader h pages blocks false
+  words_fail e = record { is = λ ss vs. decides-no (λ s. words.fails e (words_of ss vs s)) }
 
-  pub header-decided : t ≡ true → (r : Bool) → Decides (HeaderCounts h pages blocks) r → DecidesHeader h pages blocks r
-  header-decided e r d = record {
+  pub header_decided : t ≡ true → (r : Bool) → Decides (HeaderCounts h pages blocks) r → DecidesHeader h pages blocks r
+  header_decided e r d = record {
     is = λ ss vs. record {
-      holds = λ b. whole ss vs (words.holds e) (d.holds b);
+      holds = λ b. all_of ss vs (words.holds e) (d.holds b);
       fails = λ b s. d.fails b (counts_of ss vs s);
     };
   }
+
+pub ruleset whole = (words_fail, header_decided)

@@ -69,12 +69,12 @@ module _ (h : AdaptiveReceiverPacketWindow) (ss pages blocks : List ℕ) (g : �
 
   -- t is what the page's match gave
   module _ (t : Bool) (matched : Decides (PageMatches h w x g) t) where
-    pub page-unmatched : t ≡ false → DecidesAt h ss pages blocks g false
-    page-unmatched e = record { is = λ vs. decides-no (λ s. matched.fails e (matching vs s)) }
+    pub page_unmatched : t ≡ false → DecidesAt h ss pages blocks g false
+    page_unmatched e = record { is = λ vs. decides-no (λ s. matched.fails e (matching vs s)) }
 
-    pub page-decided : t ≡ true → (cs : List ℕ) → cs ≡ part_of g ss → (n : ℕ) → n ≡ h.n → (r : Bool) → DecidesPage n h.window_size g w cs r
+    pub page_decided : t ≡ true → (cs : List ℕ) → cs ≡ part_of g ss → (n : ℕ) → n ≡ h.n → (r : Bool) → DecidesPage n h.window_size g w cs r
         → DecidesAt h ss pages blocks g r
-    page-decided e cs ec n en r d = record {
+    page_decided e cs ec n en r d = record {
       is = λ vs.
           let q : Decides (SoundPage h.n (capacity h.window_size) g (page w (part_of g ss) (part_of g vs))) r
           = rw (← ec, ← en) (d.is (part_of g vs)) in
@@ -83,3 +83,5 @@ module _ (h : AdaptiveReceiverPacketWindow) (ss pages blocks : List ℕ) (g : �
             fails = λ b s. q.fails b (by_itself vs s);
           };
     }
+
+pub ruleset tested = (page_unmatched, page_decided)

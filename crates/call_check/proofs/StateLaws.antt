@@ -63,3 +63,8 @@ module _ (w : AdaptiveReceiverPacketWindow) (ss vs pages blocks : List ℕ) (d :
     unfolding decode
     late_answer e =
         record { sound = λ s. absurd ((current.is vs s.sound).fails e (s.base, s.point)); unsound = λ n. refl }
+
+-- what `sound` needs of them, and `checked`
+pub ruleset whole = (header_unsound, blocks_unsound, sound_decided)
+
+pub ruleset answers = (unsound_answer, late_answer, current_answer)

@@ -23,6 +23,7 @@ pub fn bit_matches(word: u64, k: usize, named: u64) -> bool
 }
 
 // Whether a word has no bit from n on.
+#[tactic(auto, using(crate::proofs::WordLaws::below_power))]
 pub fn no_bits_from(word: u64, n: usize) -> bool
     requires { (1 ≤ n) × (n ≤ 64) }
     ensures { Decides (word < 2 ^ n) result }

@@ -20,6 +20,7 @@ fn pages_in_block(count: usize, block: usize) -> usize
 
 // Block `block`: its bit in the summary, no bits past the last page, and its live values. (That no page has a mark while no retired
 // value is held is not tested: it follows from the clauses on marks and on retired_held.)
+#[tactic(auto, using(crate::proofs::BlockLaws::tested))]
 fn block_sound(w: AdaptiveReceiverPacketWindow, pages: &[u64], blocks: &[u64], block: usize) -> bool
     requires { WordsLent w.window_size pages.now blocks.now × (block < block_count_of w.window_size) }
     ensures { DecidesBlock w pages.now blocks.now block result }

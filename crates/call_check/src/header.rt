@@ -44,6 +44,7 @@ fn counts_sound(w: AdaptiveReceiverPacketWindow, pages: &[u64], blocks: &[u64]) 
 }
 
 // The whole header.
+#[tactic(auto, using(crate::proofs::HeaderLaws::whole))]
 pub fn header_sound(w: AdaptiveReceiverPacketWindow, pages: &[u64], blocks: &[u64]) -> bool
     requires { WordsLent w.window_size pages.now blocks.now }
     ensures { DecidesHeader w pages.now blocks.now result }

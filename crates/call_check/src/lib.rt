@@ -27,6 +27,7 @@ use window::answers::{Answer, Step};
 use window::refusals::{Refusal, Verdict};
 
 // Whether the state is sound, base and point aside, by a fixed number of passes over the pages. The values are not looked at.
+#[tactic(auto, using(crate::proofs::StateLaws::whole))]
 fn sound(w: AdaptiveReceiverPacketWindow, sequences: &[u32], pages: &[u64], blocks: &[u64]) -> bool
     requires within { Within w.window_size w.n w.demote_at × (capacity w.window_size ≤ length sequences.now) }
     requires words_lent { WordsLent w.window_size pages.now blocks.now }
@@ -42,7 +43,7 @@ fn sound(w: AdaptiveReceiverPacketWindow, sequences: &[u32], pages: &[u64], bloc
 }
 
 // The answer of check.
-#[tactic(auto, using(crate::proofs::StateLaws::unsound_answer, crate::proofs::StateLaws::late_answer, crate::proofs::StateLaws::current_answer))]
+#[tactic(auto, using(crate::proofs::StateLaws::answers))]
 fn checked(
     w: AdaptiveReceiverPacketWindow,
     sequences: &[u32],

@@ -45,6 +45,7 @@ fn page_matches(
 }
 
 // Page `page` of the window.
+#[tactic(auto, using(crate::proofs::PageLaws::tested))]
 fn page_at_sound(
     w: AdaptiveReceiverPacketWindow,
     sequences: &[u32],
