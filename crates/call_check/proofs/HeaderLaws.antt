@@ -5,6 +5,7 @@ use mathlib.Core.List.{List}
 use Prim.Native.Nat.{ℕ}
 use Rattle.window.specs.declared.AdaptiveReceiverPacketWindow.{AdaptiveReceiverPacketWindow}
 use Rattle.window.specs.Memory.{memory}
+use Rattle.window.proofs.MemoryLaws.{page-count-ge, page-count-le, block-count-le}
 use Rattle.model.specs.Window.{decode}
 use Rattle.page_check.specs.Promises.{Decides}
 use Rattle.page_check.proofs.DecideLaws.{decides-no}
@@ -52,5 +53,7 @@ module _ (h : AdaptiveReceiverPacketWindow) (pages blocks : List ℕ) (t : Bool)
       fails = λ b s. d.fails b (counts_of ss vs s);
     };
   }
+
+pub ruleset sizes = (page-count-ge, page-count-le, block-count-le)
 
 pub ruleset whole = (words_fail, header_decided)

@@ -14,6 +14,8 @@ use Rattle.model.specs.Pages.{values_in_of, holds_value}
 use Rattle.model.specs.Sound.{SoundPage}
 use Rattle.page_base.specs.declared.PageWords.{PageWords}
 use Rattle.page_base.specs.Page.{words_at, part_of, page}
+use Rattle.page_base.proofs.PartLaws.{part_length}
+use Rattle.call_base.proofs.FitLaws.{page-bounds}
 use Rattle.page_base.proofs.DecodeLaws.{page-at}
 use Rattle.block_marks.specs.declared.BlockWords.{BlockWords}
 use Rattle.block_marks.specs.Blocks.{block_words_at, block_of}
@@ -84,4 +86,4 @@ module _ (h : AdaptiveReceiverPacketWindow) (ss pages blocks : List â„•) (g : â„
           };
     }
 
-pub ruleset tested = (page_unmatched, page_decided)
+pub ruleset tested = (page_unmatched, page_decided, page-bounds, part_length)

@@ -109,3 +109,5 @@ module _ (h : AdaptiveReceiverPacketWindow) (m : Memory) where
         (λ i l. live_at_lem (64 * b + i) (omega arith) ∙ sym (live-of i (omega arith)))
         ∙ sym (sum_past n 64 live_of (omega arith) (λ i l. rw (le-ltb i n l)))
         ∙ sum_same 64 live_of (λ (i : ℕ). live_in (decode h m) (64 * b + i)) live-of
+
+pub ruleset counting = (where-none, where-more)

@@ -9,6 +9,7 @@ use window::AdaptiveReceiverPacketWindow;
 use window::memory::{block_count, page_count};
 
 // release_cursor is a page; no bits past the last block; with no retired value held, no block has its mark.
+#[tactic(auto, using(crate::proofs::HeaderLaws::sizes))]
 fn words_sound(w: AdaptiveReceiverPacketWindow) -> bool
     requires { w.window_size ≤ 65536 }
     ensures { Decides (HeaderWords w) result }
@@ -30,6 +31,7 @@ fn words_sound(w: AdaptiveReceiverPacketWindow) -> bool
 }
 
 // len and retired_held are the sums.
+#[tactic(auto, using(crate::proofs::HeaderLaws::sizes))]
 fn counts_sound(w: AdaptiveReceiverPacketWindow, pages: &[u64], blocks: &[u64]) -> bool
     requires { WordsLent w.window_size pages.now blocks.now }
     ensures { Decides (HeaderCounts w pages.now blocks.now) result }

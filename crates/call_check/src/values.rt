@@ -25,6 +25,7 @@ fn values_at(
 }
 
 // How many values the `n` pages from `from` on hold, of those that are retired, or of the others.
+#[tactic(auto, using(crate::proofs::ValueLaws::counting))]
 pub fn values_where(
     pages: &[u64],
     blocks: &[u64],
