@@ -4,7 +4,8 @@ use mathlib.Core.Bool.{Bool, true, false}
 use mathlib.Core.List.{List}
 use Prim.Native.Nat.{ℕ, ◌^◌, ◌<◌}
 use Rattle.window.specs.declared.AdaptiveReceiverPacketWindow.{AdaptiveReceiverPacketWindow}
-use Rattle.window.specs.declared.answers.Answer.TheVariants.{Done, Refused}
+use Rattle.std.specs.Prelude.{Ok, Err}
+use Rattle.window.specs.declared.answers.Answer.TheVariants.{Done}
 use Rattle.window.specs.declared.refusals.Refusal.TheVariants.{Unsound}
 use Rattle.window.specs.Memory.{memory}
 use Rattle.window.specs.Refusals.{Within}
@@ -47,19 +48,19 @@ module _ (h : AdaptiveReceiverPacketWindow) (ss pages blocks : List ℕ) (within
 -- ---- the answer, by what the test of the state gave
 
 module _ (w : AdaptiveReceiverPacketWindow) (ss vs pages blocks : List ℕ) (d : Bool) (decided : DecidesSound w ss pages blocks d) where
-  pub unsound_answer : d ≡ false → Checks (state_of w (memory ss vs pages blocks)) (Refused Unsound)
+  pub unsound_answer : d ≡ false → Checks (state_of w (memory ss vs pages blocks)) (Err Unsound)
   unsound_answer t = record { sound = λ ok. absurd ((decided.is vs).fails t ok.sound); unsound = λ n. refl }
 
   -- where that is sound, by what the test of base and point gave
   module _ (t : d ≡ true) (k : Bool) (current : DecidesCurrent w ss pages blocks k) where
-    pub current_answer : k ≡ true → Checks (state_of w (memory ss vs pages blocks)) Done
+    pub current_answer : k ≡ true → Checks (state_of w (memory ss vs pages blocks)) (Ok Done)
     unfolding decode
     current_answer e =
         let ok = (decided.is vs).holds t in
         let p = (current.is vs ok).holds e in
         record { sound = λ s. refl; unsound = λ n. absurd (n (record { sound = ok; base = p.0; point = p.1 })) }
 
-    pub late_answer : k ≡ false → Checks (state_of w (memory ss vs pages blocks)) (Refused Unsound)
+    pub late_answer : k ≡ false → Checks (state_of w (memory ss vs pages blocks)) (Err Unsound)
     unfolding decode
     late_answer e =
         record { sound = λ s. absurd ((current.is vs s.sound).fails e (s.base, s.point)); unsound = λ n. refl }

@@ -1,9 +1,10 @@
 -- What the tests promise: they decide the clauses of every window with this header and these lists, whatever the values are.
 -- Definitions only. Assumes nothing.
-use Rattle.std.specs.Prelude.{◌≡◌, Bool, true, false, not, List, ℕ, ◌*◌, ◌%◌, ◌^◌, ◌≤◌, ◌<◌, eqb, length}
+use Rattle.std.specs.Prelude.{◌≡◌, Bool, true, false, not, List, ℕ, ◌*◌, ◌%◌, ◌^◌, ◌≤◌, ◌<◌, eqb, length, Result}
 use Rattle.words.specs.Word.{bit_at, count}
 use Rattle.window.specs.declared.AdaptiveReceiverPacketWindow.{AdaptiveReceiverPacketWindow}
 use Rattle.window.specs.declared.answers.Answer.{Answer}
+use Rattle.window.specs.declared.refusals.Refusal.{Refusal}
 use Rattle.window.specs.Memory.{memory, page_count_of, block_count_of, words_per_page, words_per_block}
 use Rattle.model.specs.Window.{Window, decode}
 use Rattle.model.specs.Demand3.{one}
@@ -78,6 +79,6 @@ module _ (h : AdaptiveReceiverPacketWindow) (pages blocks : List ℕ) where
     pub is : (ss vs : List ℕ) → Decides (SoundHeader (window_with ss vs)) r
 
 -- "check: then 7, exactly if not sound"
-pub record Checks (u : State) (a : Answer) : Type 0 where
+pub record Checks (u : State) (a : Result Answer Refusal) : Type 0 where
   pub sound : SoundWithPoint (window_of u) → answer_of a ≡ window_answer (window_of u) check
   pub unsound : (SoundWithPoint (window_of u) → ⊥) → answer_of a ≡ refused 7

@@ -24,7 +24,7 @@ use header::header_sound;
 use page::pages_sound;
 use window::AdaptiveReceiverPacketWindow;
 use window::answers::{Answer, Step};
-use window::refusals::{Refusal, Verdict};
+use window::refusals::Refusal;
 
 // Whether the state is sound, base and point aside, by a fixed number of passes over the pages. The values are not looked at.
 #[tactic(auto, using(crate::proofs::StateLaws::whole))]
@@ -50,17 +50,17 @@ fn checked(
     values: &[u32],
     pages: &[u64],
     blocks: &[u64],
-) -> Answer
+) -> Result<Answer, Refusal>
     requires { ListsFit w sequences.now values.now pages.now blocks.now }
     ensures { Checks (state_of w (found_in (lent sequences) (lent values) (lent pages) (lent blocks))) result }
 {
     if !sound(w, sequences, pages, blocks) {
-        return Answer::Refused(Refusal::Unsound);
+        return Err(Refusal::Unsound);
     }
     if !is_current(w, sequences, pages, blocks) {
-        return Answer::Refused(Refusal::Unsound);
+        return Err(Refusal::Unsound);
     }
-    Answer::Done
+    Ok(Answer::Done)
 }
 
 // Done for a sound state, refusal 7 for any other.
@@ -73,7 +73,7 @@ pub fn check(
 ) -> Step
     ensures { MeetsBy (ask check_of) w (lent sequences) (lent values) (lent pages) (lent blocks) result }
 {
-    let verdict = admits(
+    if let Err(why) = admits(
         w,
         sequences.len(),
         values.len(),
@@ -81,8 +81,7 @@ pub fn check(
         blocks.len(),
         NO_LIST,
         Arguments::Nothing,
-    );
-    if let Verdict::Refuse(why) = verdict {
+    ) {
         return refuse(w, why);
     }
     reply(w, checked(w, sequences, values, pages, blocks))

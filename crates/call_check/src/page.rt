@@ -7,7 +7,7 @@ ghost use Rattle.call_check.specs.Promises.{DenseEnough, PageMatches, WordsLent,
 use crate::bits::bit_matches;
 use block_marks::marks::retired_pages;
 use block_marks::{BlockWords, block_words};
-use page_base::{PageWords, page_cells, page_words};
+use page_base::{DENSE, PageWords, page_cells, page_words};
 use page_check::page_sound;
 use window::AdaptiveReceiverPacketWindow;
 use window::memory::page_count;
@@ -16,7 +16,7 @@ use window::memory::page_count;
 fn dense_enough(demote_at: u32, words: PageWords, retired: bool) -> bool
     ensures { Decides (DenseEnough demote_at words retired) result }
 {
-    if retired || words.kind != 2 || demote_at == 0 {
+    if retired || words.kind != DENSE || demote_at == 0 {
         return true;
     }
     (demote_at as usize) < words::count(words.occupied)
@@ -36,12 +36,12 @@ fn page_matches(
     if !bit_matches(block.nonempty, bit, words.occupied) {
         return false;
     }
-    let marked = words::bit(block.retired, bit) == 1;
+    let marked = words::bit(block.retired, bit);
     if words.occupied == 0 && marked {
         return false;
     }
     let retired = retired_pages(w.retired_blocks, block.retired, page / 64);
-    dense_enough(w.demote_at, words, words::bit(retired, bit) == 1)
+    dense_enough(w.demote_at, words, words::bit(retired, bit))
 }
 
 // Page `page` of the window.

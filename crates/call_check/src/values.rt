@@ -17,7 +17,7 @@ fn values_at(
     requires { (page < 1024) × RowIn words_per_page page pages.now × RowIn words_per_block (page / 64) blocks.now }
     ensures { result ≡ values_at_of pages.now blocks.now retired_blocks retired page }
 {
-    if (page_retired(blocks, retired_blocks, page) == 1) != retired {
+    if page_retired(blocks, retired_blocks, page) != retired {
         return 0;
     }
     let words = page_words(pages, page);
