@@ -15,7 +15,7 @@ use loss_list::{most_words, put_run, run_count};
 use loss_stretch::next_stretch;
 use window::AdaptiveReceiverPacketWindow;
 use window::answers::{Answer, Step};
-use window::refusals::{Refusal, Verdict};
+use window::refusals::Refusal;
 
 // How many words the list of the `count` sequences from `first` on has.
 fn count_words(
@@ -93,7 +93,7 @@ pub fn write_losses(
 ) -> Step
     ensures { WritesLossesBy first last w (lent sequences) (lent values) (lent pages) (lent blocks) (lent_mut words) result }
 {
-    let verdict = admits(
+    if let Err(why) = admits(
         w,
         sequences.len(),
         values.len(),
@@ -101,8 +101,7 @@ pub fn write_losses(
         blocks.len(),
         NO_LIST,
         Arguments::Range(first, last),
-    );
-    if let Verdict::Refuse(why) = verdict {
+    ) {
         return refuse(w, why);
     }
     let count = range_count(first, last);
@@ -112,7 +111,7 @@ pub fn write_losses(
         }
     }
     let n = put_losses(w, sequences, pages, blocks, words, first, count);
-    reply(w, Answer::Found(n as u32))
+    reply(w, Ok(Answer::Found(n as u32)))
 }
 
 // The losses of first..last that a loss list names, a byte for each sequence; how many they are. Only a list of write_losses is taken.
@@ -129,7 +128,7 @@ pub fn read_losses(
 ) -> Step
     ensures { ReadsLossesBy first last w (lent sequences) (lent values) (lent pages) (lent blocks) (lent words) (lent_mut lost) result }
 {
-    let verdict = admits(
+    if let Err(why) = admits(
         w,
         sequences.len(),
         values.len(),
@@ -137,8 +136,7 @@ pub fn read_losses(
         blocks.len(),
         NO_LIST,
         Arguments::Range(first, last),
-    );
-    if let Verdict::Refuse(why) = verdict {
+    ) {
         return refuse(w, why);
     }
     let count = range_count(first, last);
@@ -149,5 +147,5 @@ pub fn read_losses(
         return refuse(w, Refusal::LossList);
     }
     let n = put_flags(lost, words, first, count);
-    reply(w, Answer::Found(n))
+    reply(w, Ok(Answer::Found(n)))
 }

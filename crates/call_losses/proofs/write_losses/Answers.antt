@@ -17,30 +17,30 @@ use Rattle.call_losses.proofs.WriteLaws.{most-fit, write-refused, write-short, w
 use Rattle.call_losses.proofs.write_losses.Goals as goal
 use Rattle.call_losses.proofs.write_losses.Goals.{then-words-most_words+else-words-count_words, else-words-most_words}
 
-pub returns-in-Refuse : goal.returns-in-Refuse
-returns-in-Refuse c =
+pub returns-in-Err : goal.returns-in-Err
+returns-in-Err c =
     let s = c.args in
-    write-refused s.first s.last s.w (memory s.sequences.now s.values.now s.pages.now s.blocks.now) _ refl s.words.now c.admits-verdict.result c.admits-verdict.ensures _ _ c.in-Refuse.is c.refuse.ensures
+    write-refused s.first s.last s.w (memory s.sequences.now s.values.now s.pages.now s.blocks.now) _ refl s.words.now _ _ c.in-Err.ensures c.refuse.ensures
 
 pub count_words-requires : goal.count_words-requires
 count_words-requires c =
     let s = c.args in
     let fit : ListsLent s.w s.sequences.now s.pages.now s.blocks.now =
     lists-lent s.w s.sequences.now s.values.now s.pages.now s.blocks.now
-    (asked-fits (write_losses s.first s.last 0) (state_of s.w (memory s.sequences.now s.values.now s.pages.now s.blocks.now)) c.admits-verdict.result c.admits-verdict.ensures c.in_default.in_default-own.keys2) in
+    (asked-fits (write_losses s.first s.last 0) (state_of s.w (memory s.sequences.now s.values.now s.pages.now s.blocks.now)) c.in_default.ensures) in
     let few : c.range_count-count.result ≤ c.args.w.window_size =
     omega (
       arith,
       c.range_count-count.ensures,
       count-taken (known_by s.w) s.first s.last
-          (asked-arguments (write_losses s.first s.last 0) (state_of s.w (memory s.sequences.now s.values.now s.pages.now s.blocks.now)) c.admits-verdict.result c.admits-verdict.ensures c.in_default.in_default-own.keys2),
+          (asked-arguments (write_losses s.first s.last 0) (state_of s.w (memory s.sequences.now s.values.now s.pages.now s.blocks.now)) c.in_default.ensures),
     ) in
     (fit, few)
 
 pub returns-then-words-count_words : goal.returns-then-words-count_words
 returns-then-words-count_words c =
     let s = c.args in
-    write-short s.first s.last s.w (memory s.sequences.now s.values.now s.pages.now s.blocks.now) c.range_count-count.result c.range_count-count.ensures s.words.now c.admits-verdict.result c.admits-verdict.ensures c.in_default.in_default-own.keys2 _
+    write-short s.first s.last s.w (memory s.sequences.now s.values.now s.pages.now s.blocks.now) c.range_count-count.result c.range_count-count.ensures s.words.now c.in_default.ensures _
     (omega (arith, c.if-words-count_words.true, c.count_words.ensures)) c.refuse-then-words-count_words.ensures
 
 pub put_losses-n-requires : goal.put_losses-n-requires
@@ -48,13 +48,13 @@ put_losses-n-requires c =
     let s = c.args in
     let fit : ListsLent s.w s.sequences.now s.pages.now s.blocks.now =
     lists-lent s.w s.sequences.now s.values.now s.pages.now s.blocks.now
-    (asked-fits (write_losses s.first s.last 0) (state_of s.w (memory s.sequences.now s.values.now s.pages.now s.blocks.now)) c.admits-verdict.result c.admits-verdict.ensures c.in_default.in_default-own.keys2) in
+    (asked-fits (write_losses s.first s.last 0) (state_of s.w (memory s.sequences.now s.values.now s.pages.now s.blocks.now)) c.in_default.ensures) in
     let few : c.range_count-count.result ≤ c.args.w.window_size =
     omega (
       arith,
       c.range_count-count.ensures,
       count-taken (known_by s.w) s.first s.last
-          (asked-arguments (write_losses s.first s.last 0) (state_of s.w (memory s.sequences.now s.values.now s.pages.now s.blocks.now)) c.admits-verdict.result c.admits-verdict.ensures c.in_default.in_default-own.keys2),
+          (asked-arguments (write_losses s.first s.last 0) (state_of s.w (memory s.sequences.now s.values.now s.pages.now s.blocks.now)) c.in_default.ensures),
     ) in
     let room :
     length (seen_list s.w s.sequences.now s.pages.now s.blocks.now s.first c.range_count-count.result) ≤ length s.words.now =
@@ -83,5 +83,5 @@ returns c =
           most-fit s.first s.last s.w (memory s.sequences.now s.values.now s.pages.now s.blocks.now) c.range_count-count.result c.range_count-count.ensures (length s.words.now)
           (omega (arith, c.most_words.ensures, w.if-words-most_words.false))
     ] in
-    write_done s.first s.last s.w (memory s.sequences.now s.values.now s.pages.now s.blocks.now) c.range_count-count.result c.range_count-count.ensures s.words.now c.admits-verdict.result c.admits-verdict.ensures c.in_default.in_default-own.keys2 _ _ _
+    write_done s.first s.last s.w (memory s.sequences.now s.values.now s.pages.now s.blocks.now) c.range_count-count.result c.range_count-count.ensures s.words.now c.in_default.ensures _ _ _
     room c.put_losses-n.ensures c.reply.ensures
