@@ -18,6 +18,7 @@ use window::answers::{Answer, Step};
 use window::refusals::Refusal;
 
 // How many words the list of the `count` sequences from `first` on has.
+#[tactic(auto, using(crate::proofs::LoopRules::counting))]
 fn count_words(
     w: AdaptiveReceiverPacketWindow,
     sequences: &[u32],
@@ -48,6 +49,7 @@ fn count_words(
 }
 
 // The list of the `count` sequences from `first` on, into a list that has the places for it; how many words it has.
+#[tactic(auto, using(crate::proofs::LoopRules::writing))]
 fn put_losses(
     w: AdaptiveReceiverPacketWindow,
     sequences: &[u32],
