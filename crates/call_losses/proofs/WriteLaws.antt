@@ -2,12 +2,13 @@
 use mathlib.Core.Path.{◌≡◌, refl, sym, ap, ◌∙◌}
 use mathlib.Core.Bool.{not}
 use mathlib.Core.List.{List, []}
-use Prim.Native.Nat.{ℕ, ◌≤◌, ◌<◌}
+use Prim.Native.Nat.{ℕ, ◌^◌, ◌≤◌, ◌<◌}
 use native.Mathlib.Omega.{arith}
 use Rattle.std.specs.Prelude.{Result, Ok, Err}
-use lib.ListN.{length, take, drop, get_or}
+use lib.ListN.{length, length-append, take, drop}
 use lib.Seq.{take-append_seam}
-use borrow.Author.Tests.{le-leb, lt-leb}
+use borrow.Author.Tests.{le-leb, lt-leb, ltb-true}
+use Rattle.words.proofs.CaseLaws.{both}
 use Rattle.window.specs.declared.AdaptiveReceiverPacketWindow.{AdaptiveReceiverPacketWindow}
 use Rattle.window.specs.declared.answers.Answer.{Answer}
 use Rattle.window.specs.declared.answers.Answer.TheVariants.{Found}
@@ -15,10 +16,12 @@ use Rattle.window.specs.declared.answers.Step.{Step}
 use Rattle.window.specs.declared.refusals.Refusal.{Refusal}
 use Rattle.window.specs.declared.refusals.Refusal.TheVariants.{ShortList}
 use Rattle.window.specs.Memory.{Memory}
-use Rattle.window.specs.Refusals.{refusal_number_of}
+use Rattle.window.specs.Refusals.{refusal_number_of, is_wire_number_of}
 use Rattle.model.specs.Calls.{write_losses, ask, found}
 use Rattle.model.specs.Roles.{range_argument}
-use Rattle.model.specs.Table.{sequence_at_of, range_count_of, loss_list_of}
+use Rattle.model.specs.Steps.{known_by}
+use Rattle.model.proofs.RefusalLaws.{wire-taken}
+use Rattle.model.specs.Table.{sequence_at_of, range_count_of, refused_for_of, loss_list_of}
 use Rattle.model.specs.Losses.{flags_from, loss_words, most_words_of}
 use Rattle.model.specs.Point.{is_live}
 use Rattle.model.specs.Window.{size_of, live_at}
@@ -30,7 +33,10 @@ use Rattle.laws_losses.proofs.LossLaws.{flags-length, list-most}
 use Rattle.laws_losses.proofs.ReportLaws.{flags-same}
 use Rattle.call_base.specs.Answers.{answer_of, replied, refused_by, state_of, left_of}
 use Rattle.call_base.specs.Admits.{admission}
-use Rattle.call_base.proofs.MeetsLaws.{asked-refusal, asked-meets}
+use Rattle.call_base.proofs.MeetsLaws.{asked-refusal, asked-fits, asked-arguments, asked-meets}
+use Rattle.call_base.proofs.RangeLaws.{count-taken}
+use Rattle.acknowledge.specs.Promises.{ListsLent}
+use Rattle.acknowledge.proofs.LentLaws.{lists-lent}
 use Rattle.loss_stretch.specs.Promises.{seen_lost}
 use Rattle.loss_stretch.proofs.SeenLaws.{seen-live}
 use Rattle.call_losses.specs.Promises.{seen_list, PutsLosses}
@@ -42,6 +48,24 @@ module _ (w : AdaptiveReceiverPacketWindow) (m : Memory) (a : Result Answer Refu
 
   pub answered : answer_of r.answer.answer ≡ answer_of a
   answered = ap (λ (x : Step). answer_of x.answer.answer) e
+
+-- ---- what `admits` tested of a range that it takes
+
+module _ (first last : ℕ) (w : AdaptiveReceiverPacketWindow) (m : Memory) (count : ℕ) (range : count ≡ range_count_of first last)
+    (pass : 0 ≡ admission w (length m.sequences) (length m.values) (length m.pages) (length m.blocks) 384 (range_argument first last)) where
+  pub range-lent : ListsLent w m.sequences m.pages m.blocks
+  range-lent = lists-lent w m.sequences m.values m.pages m.blocks (asked-fits (write_losses first last 0) (state_of w m) pass)
+
+  taken : refused_for_of (known_by w) (range_argument first last) ≡ 0
+  taken = asked-arguments (write_losses first last 0) (state_of w m) pass
+
+  pub range-few : count ≤ w.window_size
+  range-few = omega (arith, range, count-taken (known_by w) first last taken)
+
+  pub range-low : (first < 2 ^ 31) × (count ≤ 65536)
+  range-low =
+      let wire = (wire-taken (known_by w) (range_argument first last) taken).0 in
+      (ltb-true first (2 ^ 31) (both (is_wire_number_of first) (is_wire_number_of last) wire).0, omega (arith, range-few, range-lent.within.size_high))
 
 -- ---- the words that are seen are those of the report
 
@@ -98,10 +122,11 @@ module _ (first last : ℕ) (w : AdaptiveReceiverPacketWindow) (m : Memory) (cou
           (λ ok. let e = ap length (seen-report ok) in sym (rw (lt-leb (length (report_of u first last)) (length l) (omega (arith, e))) refl)))
 
       -- the list is written, n words
-      pub write_done : (r : Step) (n : ℕ) (l' : List ℕ) → length seen ≤ length l → PutsLosses w m.sequences m.pages m.blocks first count l n l'
+      pub write_done : (r : Step) (n : ℕ) (l' : List ℕ) → length l' ≡ length l → PutsLosses w m.sequences m.pages m.blocks first count l n l'
           → r ≡ replied w (Ok (Found n)) → WritesLosses first last u l (left_of r m []) l'
-      write_done r n l' room put q =
+      write_done r n l' long put q =
           let y = answered w m (Ok (Found n)) r q in
+          let room : length seen ≤ length l = omega (arith, long, ap length put.list, length-append seen (drop (length seen) l)) in
           let all = put.number in
           record {
             meets = asked-meets (write_losses first last (length l)) u pass (Ok (Found n)) r q refl

@@ -34,6 +34,7 @@ fn count_words(
     let mut mask: u64 = 0;
     let mut run: u32 = 0;
     let mut total: usize = 0;
+    // The step is a stretch, not one: no range or iterator says it more plainly than this.
     while d < count {
         let s = next_stretch(w, sequences, pages, blocks, first, count, d, mask);
         if s.lost {
@@ -67,6 +68,7 @@ fn put_losses(
     let mut start: u32 = 0;
     let mut run: u32 = 0;
     let mut at: usize = 0;
+    // The step is a stretch, not one: no range or iterator says it more plainly than this.
     while d < count {
         let s = next_stretch(w, sequences, pages, blocks, first, count, d, mask);
         mask = s.mask;
