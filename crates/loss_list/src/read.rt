@@ -41,10 +41,8 @@ fn least_gap(phase: Phase) -> u32
     ensures { result ≡ least_gap_of (phase_of phase) }
 {
     match phase {
-        Phase::Clear => 0,
-        Phase::Alone => 1,
-        Phase::Ended => 1,
-        Phase::Opened => 0,
+        Phase::Clear | Phase::Opened => 0,
+        Phase::Alone | Phase::Ended => 1,
     }
 }
 
