@@ -34,7 +34,8 @@ pub fn values_where(
     n: usize,
     retired: bool,
 ) -> usize
-    requires { (from + n ≤ 1024) × (words_per_page * (from + n) ≤ length pages.now) × (words_per_block * ((from + n + 63) / 64) ≤ length blocks.now) }
+    requires { (from + n ≤ 1024) × (words_per_page * (from + n) ≤ length pages.now)
+        × (words_per_block * ((from + n + 63) / 64) ≤ length blocks.now) }
     ensures { result ≡ values_where_of pages.now blocks.now retired_blocks retired from n }
 {
     let mut values: usize = 0;

@@ -60,7 +60,8 @@ fn put_losses(
     first: u32,
     count: u32,
 ) -> usize
-    requires { ListsLent w sequences.now pages.now blocks.now × (count ≤ w.window_size) × (length (seen_list w sequences.now pages.now blocks.now first count) ≤ length words.old) }
+    requires { ListsLent w sequences.now pages.now blocks.now × (count ≤ w.window_size)
+        × (length (seen_list w sequences.now pages.now blocks.now first count) ≤ length words.old) }
     ensures { PutsLosses w sequences.now pages.now blocks.now first count words.old result words.new }
 {
     let mut d: u32 = 0;
