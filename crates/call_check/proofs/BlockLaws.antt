@@ -7,6 +7,7 @@ use lib.Dec.{eqb}
 use borrow.Author.Tests.{eqb-true, eqb-false}
 use Rattle.window.specs.declared.AdaptiveReceiverPacketWindow.{AdaptiveReceiverPacketWindow}
 use Rattle.window.specs.Memory.{memory, page_count_of, block_count_of}
+use Rattle.window.proofs.MemoryLaws.{page-count-le, block-count-le}
 use Rattle.model.specs.Demand3.{one}
 use Rattle.model.specs.Window.{Block, Window, decode}
 use Rattle.block_marks.specs.declared.BlockWords.{BlockWords}
@@ -32,9 +33,9 @@ module _ (h : AdaptiveReceiverPacketWindow) (pages blocks : List ℕ) (b : ℕ) 
     summary-of s = s.summary ∙ ap (λ (y : Block). one (not (eqb y.nonempty 0))) block-is
 
   -- t is what the summary's test gave
-  pub summary-differs : (t : Bool) → Decides (BitMatches h.nonempty_summary b x.nonempty) t → t ≡ false
+  pub summary_differs : (t : Bool) → Decides (BitMatches h.nonempty_summary b x.nonempty) t → t ≡ false
       → DecidesBlock h pages blocks b false
-  summary-differs t d e = record { is = λ ss vs. decides-no (λ s. d.fails e (summary-of ss vs s)) }
+  summary_differs t d e = record { is = λ ss vs. decides-no (λ s. d.fails e (summary-of ss vs s)) }
 
   -- n is the number of the block's pages
   module _ (n : ℕ) (en : n ≡ pages_in_block_of (page_count_of h.window_size) b) where
@@ -50,22 +51,22 @@ module _ (h : AdaptiveReceiverPacketWindow) (pages blocks : List ℕ) (b : ℕ) 
       unfolding decode
       few-retired s = rw en (subst (λ (y : Block). y.retired < 2 ^ most) (block-is ss vs) s.retired_bits)
 
-    pub nonempty-past : (t : Bool) → Decides (x.nonempty < 2 ^ n) t → t ≡ false → DecidesBlock h pages blocks b false
-    nonempty-past t d e = record { is = λ ss vs. decides-no (λ s. d.fails e (few-nonempty ss vs s)) }
+    pub nonempty_past : (t : Bool) → Decides (x.nonempty < 2 ^ n) t → t ≡ false → DecidesBlock h pages blocks b false
+    nonempty_past t d e = record { is = λ ss vs. decides-no (λ s. d.fails e (few-nonempty ss vs s)) }
 
-    pub retired-past : (t : Bool) → Decides (x.retired < 2 ^ n) t → t ≡ false → DecidesBlock h pages blocks b false
-    retired-past t d e = record { is = λ ss vs. decides-no (λ s. d.fails e (few-retired ss vs s)) }
+    pub retired_past : (t : Bool) → Decides (x.retired < 2 ^ n) t → t ≡ false → DecidesBlock h pages blocks b false
+    retired_past t d e = record { is = λ ss vs. decides-no (λ s. d.fails e (few-retired ss vs s)) }
 
     -- live is what was counted
-    module _ (live : ℕ) (el : live ≡ values_where_of pages blocks h.retired_blocks 0 (64 * b) n) where
-      pub block-decided : (t u r : Bool) → Decides (BitMatches h.nonempty_summary b x.nonempty) t → t ≡ true
+    module _ (live : ℕ) (el : live ≡ values_where_of pages blocks h.retired_blocks false (64 * b) n) where
+      pub block_decided : (t u r : Bool) → Decides (BitMatches h.nonempty_summary b x.nonempty) t → t ≡ true
           → Decides (x.nonempty < 2 ^ n) u → u ≡ true → Decides (x.retired < 2 ^ n) r → r ≡ true
           → DecidesBlock h pages blocks b (eqb x.live live)
       unfolding decode
-      block-decided t u r dt et du eu dr er = record {
+      block_decided t u r dt et du eu dr er = record {
         is = λ ss vs.
             let m = memory ss vs pages blocks in
-            let sum = el ∙ ap (values_where_of pages blocks h.retired_blocks 0 (64 * b)) en ∙ block-sum h m b in
+            let sum = el ∙ ap (values_where_of pages blocks h.retired_blocks false (64 * b)) en ∙ block-sum h m b in
             record {
               holds = λ e. record {
                 summary = dt.holds et ∙ ap (λ (y : Block). one (not (eqb y.nonempty 0))) (sym (block-is ss vs));
@@ -76,3 +77,5 @@ module _ (h : AdaptiveReceiverPacketWindow) (pages blocks : List ℕ) (b : ℕ) 
               fails = λ e s. eqb-false x.live live e (ap (λ (y : Block). y.live) (sym (block-is ss vs)) ∙ s.live ∙ sym sum);
             };
       }
+
+pub ruleset tested = (summary_differs, nonempty_past, retired_past, block_decided, page-count-le, block-count-le)

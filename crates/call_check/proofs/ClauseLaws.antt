@@ -94,9 +94,9 @@ module _ (h : AdaptiveReceiverPacketWindow) (m : Memory) where
       | no k ↦ omega (arith, ap f (block-past b (omega arith)), z)
     ]
 
-    retired-past : (g : ℕ) → page_count_of h.window_size ≤ g → bit_at ((decode h m).blocks (g / 64)).retired (g % 64) ≡ 0
+    retired_past : (g : ℕ) → page_count_of h.window_size ≤ g → bit_at ((decode h m).blocks (g / 64)).retired (g % 64) ≡ 0
     unfolding decode
-    retired-past = nothing-past (λ (x : Block). x.retired) refl (λ b l. (blocks b l).retired_bits)
+    retired_past = nothing-past (λ (x : Block). x.retired) refl (λ b l. (blocks b l).retired_bits)
 
     retired_fits : (b : ℕ) → ((decode h m).blocks b).retired < 2 ^ 64
     unfolding decode
@@ -116,14 +116,14 @@ module _ (h : AdaptiveReceiverPacketWindow) (m : Memory) where
       held = header.held;
       cursor = header.cursor;
       nonempty_bits = nothing-past (λ (x : Block). x.nonempty) refl (λ b l. (blocks b l).nonempty_bits);
-      retired_bits = retired-past;
+      retired_bits = retired_past;
       summary_bits = λ b l. bit_past (block_count_of h.window_size) h.nonempty_summary b header.summary_bits l;
       retired_block_bits = λ b l. bit_past (block_count_of h.window_size) h.retired_blocks b header.retired_block_bits l;
       no_block_mark = header.no_block_mark;
       -- this one follows from the others
       no_page_mark = λ z b l.
           no-marks (decode h m) (page_count_of h.window_size) (λ g k. (at g k).page.occupied_fits) (λ g k. (at g k).marks)
-          retired-past header.held retired_fits z b;
+          retired_past header.held retired_fits z b;
       nonempty_fits = fits (λ (x : Block). x.nonempty) refl (λ b l. (blocks b l).nonempty_bits);
       retired_fits = retired_fits;
     }

@@ -14,6 +14,8 @@ use Rattle.model.specs.Pages.{values_in_of, holds_value}
 use Rattle.model.specs.Sound.{SoundPage}
 use Rattle.page_base.specs.declared.PageWords.{PageWords}
 use Rattle.page_base.specs.Page.{words_at, part_of, page}
+use Rattle.page_base.proofs.PartLaws.{part_length}
+use Rattle.call_base.proofs.FitLaws.{page-bounds}
 use Rattle.page_base.proofs.DecodeLaws.{page-at}
 use Rattle.block_marks.specs.declared.BlockWords.{BlockWords}
 use Rattle.block_marks.specs.Blocks.{block_words_at, block_of}
@@ -69,12 +71,12 @@ module _ (h : AdaptiveReceiverPacketWindow) (ss pages blocks : List ℕ) (g : �
 
   -- t is what the page's match gave
   module _ (t : Bool) (matched : Decides (PageMatches h w x g) t) where
-    pub page-unmatched : t ≡ false → DecidesAt h ss pages blocks g false
-    page-unmatched e = record { is = λ vs. decides-no (λ s. matched.fails e (matching vs s)) }
+    pub page_unmatched : t ≡ false → DecidesAt h ss pages blocks g false
+    page_unmatched e = record { is = λ vs. decides-no (λ s. matched.fails e (matching vs s)) }
 
-    pub page-decided : t ≡ true → (cs : List ℕ) → cs ≡ part_of g ss → (n : ℕ) → n ≡ h.n → (r : Bool) → DecidesPage n h.window_size g w cs r
+    pub page_decided : t ≡ true → (cs : List ℕ) → cs ≡ part_of g ss → (n : ℕ) → n ≡ h.n → (r : Bool) → DecidesPage n h.window_size g w cs r
         → DecidesAt h ss pages blocks g r
-    page-decided e cs ec n en r d = record {
+    page_decided e cs ec n en r d = record {
       is = λ vs.
           let q : Decides (SoundPage h.n (capacity h.window_size) g (page w (part_of g ss) (part_of g vs))) r
           = rw (← ec, ← en) (d.is (part_of g vs)) in
@@ -83,3 +85,5 @@ module _ (h : AdaptiveReceiverPacketWindow) (ss pages blocks : List ℕ) (g : �
             fails = λ b s. q.fails b (by_itself vs s);
           };
     }
+
+pub ruleset tested = (page_unmatched, page_decided, page-bounds, part_length)

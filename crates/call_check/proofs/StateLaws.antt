@@ -4,7 +4,8 @@ use mathlib.Core.Bool.{Bool, true, false}
 use mathlib.Core.List.{List}
 use Prim.Native.Nat.{ℕ, ◌^◌, ◌<◌}
 use Rattle.window.specs.declared.AdaptiveReceiverPacketWindow.{AdaptiveReceiverPacketWindow}
-use Rattle.window.specs.declared.answers.Answer.TheVariants.{Done, Refused}
+use Rattle.std.specs.Prelude.{Ok, Err}
+use Rattle.window.specs.declared.answers.Answer.TheVariants.{Done}
 use Rattle.window.specs.declared.refusals.Refusal.TheVariants.{Unsound}
 use Rattle.window.specs.Memory.{memory}
 use Rattle.window.specs.Refusals.{Within}
@@ -23,19 +24,19 @@ module _ (h : AdaptiveReceiverPacketWindow) (ss pages blocks : List ℕ) (within
   abbrev v : List ℕ → Window
   v vs = decode h (memory ss vs pages blocks)
 
-  pub header-unsound : t ≡ false → DecidesSound h ss pages blocks false
+  pub header_unsound : t ≡ false → DecidesSound h ss pages blocks false
   unfolding decode
-  header-unsound e =
+  header_unsound e =
       record { is = λ vs. decides-no (λ ok. (header.is ss vs).fails e (sound-header (v vs) ok summary-fits marks_fit)) }
 
   module _ (u : Bool) (each : DecidesBlocks h pages blocks u) where
-    pub blocks-unsound : u ≡ false → DecidesSound h ss pages blocks false
+    pub blocks_unsound : u ≡ false → DecidesSound h ss pages blocks false
     unfolding decode
-    blocks-unsound e = record { is = λ vs. decides-no (λ ok. (each.is ss vs).fails e (sound-block (v vs) ok)) }
+    blocks_unsound e = record { is = λ vs. decides-no (λ ok. (each.is ss vs).fails e (sound-block (v vs) ok)) }
 
-    pub sound-decided : t ≡ true → u ≡ true → (r : Bool) → DecidesPages h ss pages blocks r → DecidesSound h ss pages blocks r
+    pub sound_decided : t ≡ true → u ≡ true → (r : Bool) → DecidesPages h ss pages blocks r → DecidesSound h ss pages blocks r
     unfolding decode
-    sound-decided et eu r d = record {
+    sound_decided et eu r d = record {
       is = λ vs. record {
         holds = λ b.
             clauses-sound h (memory ss vs pages blocks) within
@@ -47,19 +48,24 @@ module _ (h : AdaptiveReceiverPacketWindow) (ss pages blocks : List ℕ) (within
 -- ---- the answer, by what the test of the state gave
 
 module _ (w : AdaptiveReceiverPacketWindow) (ss vs pages blocks : List ℕ) (d : Bool) (decided : DecidesSound w ss pages blocks d) where
-  pub unsound-answer : d ≡ false → Checks (state_of w (memory ss vs pages blocks)) (Refused Unsound)
-  unsound-answer t = record { sound = λ ok. absurd ((decided.is vs).fails t ok.sound); unsound = λ n. refl }
+  pub unsound_answer : d ≡ false → Checks (state_of w (memory ss vs pages blocks)) (Err Unsound)
+  unsound_answer t = record { sound = λ ok. absurd ((decided.is vs).fails t ok.sound); unsound = λ n. refl }
 
   -- where that is sound, by what the test of base and point gave
   module _ (t : d ≡ true) (k : Bool) (current : DecidesCurrent w ss pages blocks k) where
-    pub current-answer : k ≡ true → Checks (state_of w (memory ss vs pages blocks)) Done
+    pub current_answer : k ≡ true → Checks (state_of w (memory ss vs pages blocks)) (Ok Done)
     unfolding decode
-    current-answer e =
+    current_answer e =
         let ok = (decided.is vs).holds t in
         let p = (current.is vs ok).holds e in
         record { sound = λ s. refl; unsound = λ n. absurd (n (record { sound = ok; base = p.0; point = p.1 })) }
 
-    pub late-answer : k ≡ false → Checks (state_of w (memory ss vs pages blocks)) (Refused Unsound)
+    pub late_answer : k ≡ false → Checks (state_of w (memory ss vs pages blocks)) (Err Unsound)
     unfolding decode
-    late-answer e =
+    late_answer e =
         record { sound = λ s. absurd ((current.is vs s.sound).fails e (s.base, s.point)); unsound = λ n. refl }
+
+-- what `sound` needs of them, and `checked`
+pub ruleset whole = (header_unsound, blocks_unsound, sound_decided)
+
+pub ruleset answers = (unsound_answer, late_answer, current_answer)

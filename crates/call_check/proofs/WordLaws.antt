@@ -1,17 +1,28 @@
 -- Tests of single words, over plain variables. Assumes nothing.
-use mathlib.Core.Path.{◌≡◌, sym, ◌∙◌}
-use Prim.Native.Nat.{ℕ, ◌^◌, ◌<◌}
+use mathlib.Core.Path.{◌≡◌, refl}
+use mathlib.Core.Bool.{Bool, true, false, not, beq}
+use Prim.Native.Nat.{ℕ, zero, suc, ◌^◌, ◌<◌}
 use native.Mathlib.Omega.{arith}
 use lib.Dec.{leb, eqb}
 use lib.Pow.{pow_pos}
 use borrow.Author.Tests.{leb-true, leb-false}
-use Rattle.words.specs.Word.{span}
+use Rattle.words.specs.Word.{is_set, span}
+use Rattle.words.proofs.BitLaws.{bit-lt}
+use Rattle.model.specs.Demand3.{one}
 use Rattle.page_check.specs.Promises.{Decides}
-use Rattle.page_check.proofs.DecideLaws.{decides-same, decides_eq}
+use Rattle.page_check.proofs.DecideLaws.{decides-yes, decides-no}
+use Rattle.call_check.specs.Promises.{BitMatches}
 
--- two numbers, each known by an equation
-pub decides-equal : (a b x y : ℕ) → a ≡ x → b ≡ y → Decides (x ≡ y) (eqb a b)
-decides-equal a b x y e f = decides-same (eqb a b) (decides_eq a b) (λ z. sym e ∙ z ∙ f) (λ z. e ∙ z ∙ sym f)
+-- a bit, which is 0 or 1, is as a test says
+bit-as : (d : ℕ) (y : Bool) → d < 2 → Decides (d ≡ one y) (beq (eqb d 1) y)
+bit-as zero true l = decides-no (λ q. omega arith)
+bit-as zero false l = decides-yes refl
+bit-as (suc zero) true l = decides-yes refl
+bit-as (suc zero) false l = decides-no (λ q. omega arith)
+bit-as (suc (suc d)) y l = absurd (omega arith)
+
+pub bit_decides : (word k x : ℕ) (b : Bool) → b ≡ is_set word k → Decides (BitMatches word k x) (beq b (not (eqb x 0)))
+bit_decides word k x b e = rw e (bit-as _ (not (eqb x 0)) (bit-lt word k))
 
 -- the lowest n bits are those of the numbers below 2 ^ n
 pub below_power : (word n s : ℕ) → s ≡ span 0 n → Decides (word < 2 ^ n) (leb word s)

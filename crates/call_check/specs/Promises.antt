@@ -1,9 +1,10 @@
 -- What the tests promise: they decide the clauses of every window with this header and these lists, whatever the values are.
 -- Definitions only. Assumes nothing.
-use Rattle.std.specs.Prelude.{◌≡◌, Bool, true, false, not, List, ℕ, ◌*◌, ◌%◌, ◌^◌, ◌≤◌, ◌<◌, eqb, length}
+use Rattle.std.specs.Prelude.{◌≡◌, Bool, true, false, not, List, ℕ, ◌*◌, ◌%◌, ◌^◌, ◌≤◌, ◌<◌, eqb, length, Result}
 use Rattle.words.specs.Word.{bit_at, count}
 use Rattle.window.specs.declared.AdaptiveReceiverPacketWindow.{AdaptiveReceiverPacketWindow}
 use Rattle.window.specs.declared.answers.Answer.{Answer}
+use Rattle.window.specs.declared.refusals.Refusal.{Refusal}
 use Rattle.window.specs.Memory.{memory, page_count_of, block_count_of, words_per_page, words_per_block}
 use Rattle.model.specs.Window.{Window, decode}
 use Rattle.model.specs.Demand3.{one}
@@ -22,13 +23,13 @@ use Rattle.call_check.specs.Clauses.{SoundAt, SoundBlock, SoundHeader, values_wh
 abbrev pub BitMatches : ℕ → ℕ → ℕ → Type 0
 BitMatches word k x = bit_at word k ≡ one (not (eqb x 0))
 
--- "a live dense page has more than demote_at values when demote_at is not 0", of a page of these words; `retired` is 1 or 0
-pub record DenseEnough (demote_at : ℕ) (w : PageWords) (retired : ℕ) : Type 0 where
-  pub more : eqb retired 1 ≡ false → w.kind ≡ 2 → (demote_at ≡ 0 → ⊥) → demote_at < count w.occupied
+-- "a live dense page has more than demote_at values when demote_at is not 0", of a page of these words
+pub record DenseEnough (demote_at : ℕ) (w : PageWords) (retired : Bool) : Type 0 where
+  pub more : retired ≡ false → w.kind ≡ 2 → (demote_at ≡ 0 → ⊥) → demote_at < count w.occupied
 
 -- page g of words w, in the block of words x
 pub record PageMatches (h : AdaptiveReceiverPacketWindow) (w : PageWords) (x : BlockWords) (g : ℕ) : Type 0 where
-  pub dense : DenseEnough h.demote_at w (page_retired_of h.retired_blocks x g)
+  pub dense : DenseEnough h.demote_at w (eqb (page_retired_of h.retired_blocks x g) 1)
   pub nonempty : BitMatches x.nonempty (g % 64) w.occupied
   pub marks : bit_at x.retired (g % 64) ≡ 1 → not (eqb w.occupied 0) ≡ true
 
@@ -41,8 +42,8 @@ pub record HeaderWords (h : AdaptiveReceiverPacketWindow) : Type 0 where
 
 -- the header's counts
 pub record HeaderCounts (h : AdaptiveReceiverPacketWindow) (pages blocks : List ℕ) : Type 0 where
-  pub len : h.len ≡ values_where_of pages blocks h.retired_blocks 0 0 (page_count_of h.window_size)
-  pub held : h.retired_held ≡ values_where_of pages blocks h.retired_blocks 1 0 (page_count_of h.window_size)
+  pub len : h.len ≡ values_where_of pages blocks h.retired_blocks false 0 (page_count_of h.window_size)
+  pub held : h.retired_held ≡ values_where_of pages blocks h.retired_blocks true 0 (page_count_of h.window_size)
 
 -- the words of pages and blocks are as many as window_size names
 pub record WordsLent (size : ℕ) (pages blocks : List ℕ) : Type 0 where
@@ -78,6 +79,6 @@ module _ (h : AdaptiveReceiverPacketWindow) (pages blocks : List ℕ) where
     pub is : (ss vs : List ℕ) → Decides (SoundHeader (window_with ss vs)) r
 
 -- "check: then 7, exactly if not sound"
-pub record Checks (u : State) (a : Answer) : Type 0 where
+pub record Checks (u : State) (a : Result Answer Refusal) : Type 0 where
   pub sound : SoundWithPoint (window_of u) → answer_of a ≡ window_answer (window_of u) check
   pub unsound : (SoundWithPoint (window_of u) → ⊥) → answer_of a ≡ refused 7

@@ -15,15 +15,12 @@ fn pages_in_block(count: usize, block: usize) -> usize
     requires { (count ≤ 1024) × (64 * block ≤ count) }
     ensures { result ≡ pages_in_block_of count block }
 {
-    let rest = count - 64 * block;
-    if rest < 64 {
-        return rest;
-    }
-    64
+    (count - 64 * block).min(64)
 }
 
 // Block `block`: its bit in the summary, no bits past the last page, and its live values. (That no page has a mark while no retired
 // value is held is not tested: it follows from the clauses on marks and on retired_held.)
+#[tactic(auto, using(crate::proofs::BlockLaws::tested))]
 fn block_sound(w: AdaptiveReceiverPacketWindow, pages: &[u64], blocks: &[u64], block: usize) -> bool
     requires { WordsLent w.window_size pages.now blocks.now × (block < block_count_of w.window_size) }
     ensures { DecidesBlock w pages.now blocks.now block result }
@@ -39,7 +36,7 @@ fn block_sound(w: AdaptiveReceiverPacketWindow, pages: &[u64], blocks: &[u64], b
     if !no_bits_from(words.retired, n) {
         return false;
     }
-    let live = values_where(pages, blocks, w.retired_blocks, 64 * block, n, 0);
+    let live = values_where(pages, blocks, w.retired_blocks, 64 * block, n, false);
     words.live == live as u64
 }
 
@@ -48,13 +45,10 @@ pub fn blocks_sound(w: AdaptiveReceiverPacketWindow, pages: &[u64], blocks: &[u6
     requires { WordsLent w.window_size pages.now blocks.now }
     ensures { DecidesBlocks w pages.now blocks.now result }
 {
-    let count = block_count(w.window_size);
-    let mut block: usize = 0;
-    while block < count {
+    for block in 0..block_count(w.window_size) {
         if !block_sound(w, pages, blocks, block) {
             return false;
         }
-        block += 1;
     }
     true
 }

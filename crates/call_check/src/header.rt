@@ -9,6 +9,7 @@ use window::AdaptiveReceiverPacketWindow;
 use window::memory::{block_count, page_count};
 
 // release_cursor is a page; no bits past the last block; with no retired value held, no block has its mark.
+#[tactic(auto, using(crate::proofs::HeaderLaws::sizes))]
 fn words_sound(w: AdaptiveReceiverPacketWindow) -> bool
     requires { w.window_size ≤ 65536 }
     ensures { Decides (HeaderWords w) result }
@@ -30,20 +31,22 @@ fn words_sound(w: AdaptiveReceiverPacketWindow) -> bool
 }
 
 // len and retired_held are the sums.
+#[tactic(auto, using(crate::proofs::HeaderLaws::sizes))]
 fn counts_sound(w: AdaptiveReceiverPacketWindow, pages: &[u64], blocks: &[u64]) -> bool
     requires { WordsLent w.window_size pages.now blocks.now }
     ensures { Decides (HeaderCounts w pages.now blocks.now) result }
 {
     let count = page_count(w.window_size);
-    let live = values_where(pages, blocks, w.retired_blocks, 0, count, 0);
+    let live = values_where(pages, blocks, w.retired_blocks, 0, count, false);
     if w.len as usize != live {
         return false;
     }
-    let retired = values_where(pages, blocks, w.retired_blocks, 0, count, 1);
+    let retired = values_where(pages, blocks, w.retired_blocks, 0, count, true);
     w.retired_held as usize == retired
 }
 
 // The whole header.
+#[tactic(auto, using(crate::proofs::HeaderLaws::whole))]
 pub fn header_sound(w: AdaptiveReceiverPacketWindow, pages: &[u64], blocks: &[u64]) -> bool
     requires { WordsLent w.window_size pages.now blocks.now }
     ensures { DecidesHeader w pages.now blocks.now result }

@@ -24,9 +24,10 @@ use header::header_sound;
 use page::pages_sound;
 use window::AdaptiveReceiverPacketWindow;
 use window::answers::{Answer, Step};
-use window::refusals::{Refusal, Verdict};
+use window::refusals::Refusal;
 
 // Whether the state is sound, base and point aside, by a fixed number of passes over the pages. The values are not looked at.
+#[tactic(auto, using(crate::proofs::StateLaws::whole))]
 fn sound(w: AdaptiveReceiverPacketWindow, sequences: &[u32], pages: &[u64], blocks: &[u64]) -> bool
     requires within { Within w.window_size w.n w.demote_at × (capacity w.window_size ≤ length sequences.now) }
     requires words_lent { WordsLent w.window_size pages.now blocks.now }
@@ -42,23 +43,24 @@ fn sound(w: AdaptiveReceiverPacketWindow, sequences: &[u32], pages: &[u64], bloc
 }
 
 // The answer of check.
+#[tactic(auto, using(crate::proofs::StateLaws::answers))]
 fn checked(
     w: AdaptiveReceiverPacketWindow,
     sequences: &[u32],
     values: &[u32],
     pages: &[u64],
     blocks: &[u64],
-) -> Answer
+) -> Result<Answer, Refusal>
     requires { ListsFit w sequences.now values.now pages.now blocks.now }
     ensures { Checks (state_of w (found_in (lent sequences) (lent values) (lent pages) (lent blocks))) result }
 {
     if !sound(w, sequences, pages, blocks) {
-        return Answer::Refused(Refusal::Unsound);
+        return Err(Refusal::Unsound);
     }
     if !is_current(w, sequences, pages, blocks) {
-        return Answer::Refused(Refusal::Unsound);
+        return Err(Refusal::Unsound);
     }
-    Answer::Done
+    Ok(Answer::Done)
 }
 
 // Done for a sound state, refusal 7 for any other.
@@ -71,7 +73,7 @@ pub fn check(
 ) -> Step
     ensures { MeetsBy (ask check_of) w (lent sequences) (lent values) (lent pages) (lent blocks) result }
 {
-    let verdict = admits(
+    if let Err(why) = admits(
         w,
         sequences.len(),
         values.len(),
@@ -79,8 +81,7 @@ pub fn check(
         blocks.len(),
         NO_LIST,
         Arguments::Nothing,
-    );
-    if let Verdict::Refuse(why) = verdict {
+    ) {
         return refuse(w, why);
     }
     reply(w, checked(w, sequences, values, pages, blocks))

@@ -7,22 +7,16 @@ ghost use Rattle.call_check.specs.Promises.{DenseEnough, PageMatches, WordsLent,
 use crate::bits::bit_matches;
 use block_marks::marks::retired_pages;
 use block_marks::{BlockWords, block_words};
-use page_base::{PageWords, page_cells, page_words};
+use page_base::{DENSE, PageWords, page_cells, page_words};
 use page_check::page_sound;
 use window::AdaptiveReceiverPacketWindow;
 use window::memory::page_count;
 
-// A live dense page has more than demote_at values when demote_at is not 0; `retired` is 1 or 0.
-fn dense_enough(demote_at: u32, words: PageWords, retired: u64) -> bool
+// A live dense page has more than demote_at values when demote_at is not 0.
+fn dense_enough(demote_at: u32, words: PageWords, retired: bool) -> bool
     ensures { Decides (DenseEnough demote_at words retired) result }
 {
-    if retired == 1 {
-        return true;
-    }
-    if words.kind != 2 {
-        return true;
-    }
-    if demote_at == 0 {
+    if retired || words.kind != DENSE || demote_at == 0 {
         return true;
     }
     (demote_at as usize) < words::count(words.occupied)
@@ -42,16 +36,16 @@ fn page_matches(
     if !bit_matches(block.nonempty, bit, words.occupied) {
         return false;
     }
-    if words.occupied == 0 {
-        if words::bit(block.retired, bit) == 1 {
-            return false;
-        }
+    let marked = words::bit(block.retired, bit);
+    if words.occupied == 0 && marked {
+        return false;
     }
     let retired = retired_pages(w.retired_blocks, block.retired, page / 64);
     dense_enough(w.demote_at, words, words::bit(retired, bit))
 }
 
 // Page `page` of the window.
+#[tactic(auto, using(crate::proofs::PageLaws::tested))]
 fn page_at_sound(
     w: AdaptiveReceiverPacketWindow,
     sequences: &[u32],
@@ -82,13 +76,10 @@ pub fn pages_sound(
     requires { WordsLent w.window_size pages.now blocks.now × (capacity w.window_size ≤ length sequences.now) }
     ensures { DecidesPages w sequences.now pages.now blocks.now result }
 {
-    let count = page_count(w.window_size);
-    let mut page: usize = 0;
-    while page < count {
+    for page in 0..page_count(w.window_size) {
         if !page_at_sound(w, sequences, pages, blocks, page) {
             return false;
         }
-        page += 1;
     }
     true
 }

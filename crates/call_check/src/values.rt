@@ -6,8 +6,14 @@ ghost use Rattle.call_check.specs.Clauses.{values_where_of, values_at_of};
 use block_marks::marks::page_retired;
 use page_base::page_words;
 
-// The values of one page, if it is retired (1) or live (0), as `retired` says; else 0.
-fn values_at(pages: &[u64], blocks: &[u64], retired_blocks: u64, page: usize, retired: u64) -> usize
+// The values of one page, if `retired` says of it whether it is retired; else 0.
+fn values_at(
+    pages: &[u64],
+    blocks: &[u64],
+    retired_blocks: u64,
+    page: usize,
+    retired: bool,
+) -> usize
     requires { (page < 1024) × RowIn words_per_page page pages.now × RowIn words_per_block (page / 64) blocks.now }
     ensures { result ≡ values_at_of pages.now blocks.now retired_blocks retired page }
 {
@@ -18,23 +24,23 @@ fn values_at(pages: &[u64], blocks: &[u64], retired_blocks: u64, page: usize, re
     words::count(words.occupied)
 }
 
-// How many values the `n` pages from `from` on hold, of those that are retired (1) or live (0).
+// How many values the `n` pages from `from` on hold, of those that are retired, or of the others.
+#[tactic(auto, using(crate::proofs::ValueLaws::counting))]
 pub fn values_where(
     pages: &[u64],
     blocks: &[u64],
     retired_blocks: u64,
     from: usize,
     n: usize,
-    retired: u64,
+    retired: bool,
 ) -> usize
-    requires { (from + n ≤ 1024) × (words_per_page * (from + n) ≤ length pages.now) × (words_per_block * ((from + n + 63) / 64) ≤ length blocks.now) }
+    requires { (from + n ≤ 1024) × (words_per_page * (from + n) ≤ length pages.now)
+        × (words_per_block * ((from + n + 63) / 64) ≤ length blocks.now) }
     ensures { result ≡ values_where_of pages.now blocks.now retired_blocks retired from n }
 {
-    let mut i: usize = 0;
     let mut values: usize = 0;
-    while i < n {
+    for i in 0..n {
         values += values_at(pages, blocks, retired_blocks, from + i, retired);
-        i += 1;
     }
     values
 }

@@ -1,63 +1,71 @@
 -- write_losses: what is seen lost on a sound state is the report, and each way out meets the contract. Assumes nothing.
 use mathlib.Core.Path.{◌≡◌, refl, sym, ap, ◌∙◌}
 use mathlib.Core.Bool.{not}
-use mathlib.Core.Option.{none-ne-some}
 use mathlib.Core.List.{List, []}
-use Prim.Native.Nat.{ℕ, ◌≤◌, ◌<◌}
+use Prim.Native.Nat.{ℕ, ◌^◌, ◌≤◌, ◌<◌}
 use native.Mathlib.Omega.{arith}
-use denote.Enum.Declared.{tag_of}
-use lib.ListN.{length, take, drop, get_or}
+use Rattle.std.specs.Prelude.{Result, Ok, Err}
+use lib.ListN.{length, length-append, take, drop}
 use lib.Seq.{take-append_seam}
-use borrow.Author.Tests.{le-leb, lt-leb}
+use borrow.Author.Tests.{le-leb, lt-leb, ltb-true}
+use Rattle.words.proofs.CaseLaws.{both}
 use Rattle.window.specs.declared.AdaptiveReceiverPacketWindow.{AdaptiveReceiverPacketWindow}
 use Rattle.window.specs.declared.answers.Answer.{Answer}
-use Rattle.window.specs.declared.answers.Answer.TheVariants.{Found, Refused}
+use Rattle.window.specs.declared.answers.Answer.TheVariants.{Found}
 use Rattle.window.specs.declared.answers.Step.{Step}
 use Rattle.window.specs.declared.refusals.Refusal.{Refusal}
 use Rattle.window.specs.declared.refusals.Refusal.TheVariants.{ShortList}
-use Rattle.window.specs.declared.refusals.Verdict.{Verdict}
-use Rattle.window.specs.declared.refusals.Verdict.TheVariants.{Refuse}
 use Rattle.window.specs.Memory.{Memory}
-use Rattle.window.specs.Refusals.{refusal_number_of, verdict_number}
-use Rattle.window.specs.contracts.refusals.Verdict as verdict
-use Rattle.model.specs.Calls as model
-use Rattle.model.specs.Calls.{write_losses, found, refused}
-use Rattle.model.specs.Roles.{given, if_refused, range_argument}
-use Rattle.model.specs.Table.{sequence_at_of, range_count_of, loss_list_of}
+use Rattle.window.specs.Refusals.{refusal_number_of, is_wire_number_of}
+use Rattle.model.specs.Calls.{write_losses, ask, found}
+use Rattle.model.specs.Roles.{range_argument}
+use Rattle.model.specs.Steps.{known_by}
+use Rattle.model.proofs.RefusalLaws.{wire-taken}
+use Rattle.model.specs.Table.{sequence_at_of, range_count_of, refused_for_of, loss_list_of}
 use Rattle.model.specs.Losses.{flags_from, loss_words, most_words_of}
 use Rattle.model.specs.Point.{is_live}
 use Rattle.model.specs.Window.{size_of, live_at}
 use Rattle.model.specs.Sound.{Sound}
-use Rattle.model.specs.Contract.{State, window_of}
+use Rattle.model.specs.Contract.{State, window_of, Meets}
 use Rattle.model.specs.Reports.{report_of, WritesLosses}
 use Rattle.page_base.proofs.DecodeLaws.{header_at}
 use Rattle.laws_losses.proofs.LossLaws.{flags-length, list-most}
 use Rattle.laws_losses.proofs.ReportLaws.{flags-same}
 use Rattle.call_base.specs.Answers.{answer_of, replied, refused_by, state_of, left_of}
 use Rattle.call_base.specs.Admits.{admission}
-use Rattle.call_base.proofs.MeetsLaws.{asked-refusal, asked-meets}
+use Rattle.call_base.proofs.MeetsLaws.{asked-refusal, asked-fits, asked-arguments, asked-meets}
+use Rattle.call_base.proofs.RangeLaws.{count-taken}
+use Rattle.acknowledge.specs.Promises.{ListsLent}
+use Rattle.acknowledge.proofs.LentLaws.{lists-lent}
 use Rattle.loss_stretch.specs.Promises.{seen_lost}
 use Rattle.loss_stretch.proofs.SeenLaws.{seen-live}
 use Rattle.call_losses.specs.Promises.{seen_list, PutsLosses}
 
--- ---- answers
-
-pub not_found : (k n : ℕ) → refused k ≡ found n → ⊥
-not_found k n e = none-ne-some (refused k) (sym (ap if_refused e))
-
-pub not-refused : (k n : ℕ) → found n ≡ refused k → ⊥
-not-refused k n e = not_found k n (sym e)
-
-pub one_number : (n k : ℕ) → found n ≡ found k → n ≡ k
-one_number n k e = ap (λ (a : model.Answer). get_or (given a) 0 0) e
-
 -- a reply leaves the window as it is, and its answer is the one given
-module _ (w : AdaptiveReceiverPacketWindow) (m : Memory) (a : Answer) (r : Step) (e : r ≡ replied w a) where
+module _ (w : AdaptiveReceiverPacketWindow) (m : Memory) (a : Result Answer Refusal) (r : Step) (e : r ≡ replied w a) where
   pub still : state_of r.window m ≡ state_of w m
   still = ap (λ (x : Step). state_of x.window m) e
 
   pub answered : answer_of r.answer.answer ≡ answer_of a
   answered = ap (λ (x : Step). answer_of x.answer.answer) e
+
+-- ---- what `admits` tested of a range that it takes
+
+module _ (first last : ℕ) (w : AdaptiveReceiverPacketWindow) (m : Memory) (count : ℕ) (range : count ≡ range_count_of first last)
+    (pass : 0 ≡ admission w (length m.sequences) (length m.values) (length m.pages) (length m.blocks) 384 (range_argument first last)) where
+  pub range-lent : ListsLent w m.sequences m.pages m.blocks
+  range-lent = lists-lent w m.sequences m.values m.pages m.blocks (asked-fits (write_losses first last 0) (state_of w m) pass)
+
+  taken : refused_for_of (known_by w) (range_argument first last) ≡ 0
+  taken = asked-arguments (write_losses first last 0) (state_of w m) pass
+
+  pub range-few : count ≤ w.window_size
+  range-few = omega (arith, range, count-taken (known_by w) first last taken)
+
+  pub range-low : (first < 2 ^ 31) × (count ≤ 65536)
+  range-low =
+      let wire = (wire-taken (known_by w) (range_argument first last) taken).0 in
+      (ltb-true first (2 ^ 31) (both (is_wire_number_of first) (is_wire_number_of last) wire).0, omega (arith, range-few, range-lent.within.size_high))
 
 -- ---- the words that are seen are those of the report
 
@@ -84,42 +92,50 @@ module _ (first last : ℕ) (w : AdaptiveReceiverPacketWindow) (m : Memory) (cou
       let long : length f ≡ count = flags-length (seen_lost w m.sequences m.pages m.blocks first) 0 count in
       omega (arith, list-most first f, ap most_words_of long)
 
-  -- ---- the ways out; t is the verdict on the header, the lists and the range
+  -- ---- the ways out
 
-  module _ (l : List ℕ) (t : Verdict)
-      (test : verdict_number t ≡ admission w (length m.sequences) (length m.values) (length m.pages) (length m.blocks) 384 (range_argument first last)) where
-    pub write-refused : (why : Refusal) (r : Step) → t ≡ Refuse why → r ≡ refused_by w why → WritesLosses first last u l (left_of r m []) l
-    write-refused why r e q = record {
-      meets = asked-refusal (write_losses first last (length l)) u t test why r e q;
-      window = still w m (Refused why) r q;
-      refused_stays = λ k a. refl;
-      writes = λ n a. absurd (not_found (refusal_number_of why) n (sym (answered w m (Refused why) r q) ∙ a));
-      losses = λ n a ok. absurd (not_found (refusal_number_of why) n (sym (answered w m (Refused why) r q) ∙ a));
-    }
+  module _ (l : List ℕ) where
+    -- refused with nothing written
+    refused-writes : (why : Refusal) (r : Step) → r ≡ refused_by w why → Meets (ask (write_losses first last (length l))) u [] (left_of r m [])
+        → WritesLosses first last u l (left_of r m []) l
+    refused-writes why r q meets =
+        let e = answered w m (Err why) r q in
+        record {
+          meets = meets;
+          window = still w m (Err why) r q;
+          refused_stays = λ k a. refl;
+          writes = λ n a. absurd (cc);
+          losses = λ n a ok. absurd (cc);
+        }
 
-    module _ (pass : tag_of verdict.the_type t ≡ 0) where
+    pub write-refused : (why : Refusal) (r : Step)
+        → refusal_number_of why ≡ admission w (length m.sequences) (length m.values) (length m.pages) (length m.blocks) 384 (range_argument first last)
+        → r ≡ refused_by w why → WritesLosses first last u l (left_of r m []) l
+    write-refused why r e q = refused-writes why r q (asked-refusal (write_losses first last (length l)) u why r e q)
+
+    module _ (pass : 0 ≡ admission w (length m.sequences) (length m.values) (length m.pages) (length m.blocks) 384 (range_argument first last)) where
       -- too few places
       pub write-short : (r : Step) → length l < length seen → r ≡ refused_by w ShortList → WritesLosses first last u l (left_of r m []) l
-      write-short r few q = record {
-        meets = asked-meets (write_losses first last (length l)) u t test pass (Refused ShortList) r q refl
-            (λ ok. let e = ap length (seen-report ok) in sym (rw (lt-leb (length (report_of u first last)) (length l) (omega (arith, e))) refl));
-        window = still w m (Refused ShortList) r q;
-        refused_stays = λ k a. refl;
-        writes = λ n a. absurd (not_found 11 n (sym (answered w m (Refused ShortList) r q) ∙ a));
-        losses = λ n a ok. absurd (not_found 11 n (sym (answered w m (Refused ShortList) r q) ∙ a));
-      }
+      write-short r few q =
+          refused-writes ShortList r q
+          (asked-meets (write_losses first last (length l)) u pass (Err ShortList) r q refl
+          (λ ok. let e = ap length (seen-report ok) in sym (rw (lt-leb (length (report_of u first last)) (length l) (omega (arith, e))) refl)))
 
       -- the list is written, n words
-      pub write_done : (r : Step) (n : ℕ) (l' : List ℕ) → length seen ≤ length l → PutsLosses w m.sequences m.pages m.blocks first count l n l'
-          → r ≡ replied w (Found n) → WritesLosses first last u l (left_of r m []) l'
-      write_done r n l' room put q = record {
-        meets = asked-meets (write_losses first last (length l)) u t test pass (Found n) r q refl
-            (λ ok. let e = ap length (seen-report ok) in
-            ap found (put.number ∙ e) ∙ sym (rw (le-leb (length (report_of u first last)) (length l) (omega (arith, e))) refl));
-        window = still w m (Found n) r q;
-        refused_stays = λ k a. absurd (not-refused k n (sym (answered w m (Found n) r q) ∙ a));
-        writes = λ k a. (seen, sym put.number ∙ one_number n k (sym (answered w m (Found n) r q) ∙ a), put.list);
-        losses = λ k a ok.
-            let number : k ≡ length seen = sym (one_number n k (sym (answered w m (Found n) r q) ∙ a)) ∙ put.number in
-            (λ i. take (number i) (put.list i)) ∙ take-append_seam seen (drop (length seen) l) ∙ seen-report ok.sound;
-      }
+      pub write_done : (r : Step) (n : ℕ) (l' : List ℕ) → length l' ≡ length l → PutsLosses w m.sequences m.pages m.blocks first count l n l'
+          → r ≡ replied w (Ok (Found n)) → WritesLosses first last u l (left_of r m []) l'
+      write_done r n l' long put q =
+          let y = answered w m (Ok (Found n)) r q in
+          let room : length seen ≤ length l = omega (arith, long, ap length put.list, length-append seen (drop (length seen) l)) in
+          let all = put.number in
+          record {
+            meets = asked-meets (write_losses first last (length l)) u pass (Ok (Found n)) r q refl
+                (λ ok. let e = ap length (seen-report ok) in
+                ap found (put.number ∙ e) ∙ sym (rw (le-leb (length (report_of u first last)) (length l) (omega (arith, e))) refl));
+            window = still w m (Ok (Found n)) r q;
+            refused_stays = λ k a. absurd (cc);
+            writes = λ k a. (seen, (cc), put.list);
+            losses = λ k a ok.
+                let number : k ≡ length seen = cc in
+                (λ i. take (number i) (put.list i)) ∙ take-append_seam seen (drop (length seen) l) ∙ seen-report ok.sound;
+          }

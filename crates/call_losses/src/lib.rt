@@ -15,9 +15,10 @@ use loss_list::{most_words, put_run, run_count};
 use loss_stretch::next_stretch;
 use window::AdaptiveReceiverPacketWindow;
 use window::answers::{Answer, Step};
-use window::refusals::{Refusal, Verdict};
+use window::refusals::Refusal;
 
 // How many words the list of the `count` sequences from `first` on has.
+#[tactic(auto, using(crate::proofs::LoopRules::counting))]
 fn count_words(
     w: AdaptiveReceiverPacketWindow,
     sequences: &[u32],
@@ -33,6 +34,7 @@ fn count_words(
     let mut mask: u64 = 0;
     let mut run: u32 = 0;
     let mut total: usize = 0;
+    // The step is a stretch, not one: no range or iterator says it more plainly than this.
     while d < count {
         let s = next_stretch(w, sequences, pages, blocks, first, count, d, mask);
         if s.lost {
@@ -48,6 +50,7 @@ fn count_words(
 }
 
 // The list of the `count` sequences from `first` on, into a list that has the places for it; how many words it has.
+#[tactic(auto, using(crate::proofs::LoopRules::writing))]
 fn put_losses(
     w: AdaptiveReceiverPacketWindow,
     sequences: &[u32],
@@ -57,7 +60,8 @@ fn put_losses(
     first: u32,
     count: u32,
 ) -> usize
-    requires { ListsLent w sequences.now pages.now blocks.now × (count ≤ w.window_size) × (length (seen_list w sequences.now pages.now blocks.now first count) ≤ length words.old) }
+    requires { ListsLent w sequences.now pages.now blocks.now × (count ≤ w.window_size)
+        × (length (seen_list w sequences.now pages.now blocks.now first count) ≤ length words.old) }
     ensures { PutsLosses w sequences.now pages.now blocks.now first count words.old result words.new }
 {
     let mut d: u32 = 0;
@@ -65,6 +69,7 @@ fn put_losses(
     let mut start: u32 = 0;
     let mut run: u32 = 0;
     let mut at: usize = 0;
+    // The step is a stretch, not one: no range or iterator says it more plainly than this.
     while d < count {
         let s = next_stretch(w, sequences, pages, blocks, first, count, d, mask);
         mask = s.mask;
@@ -93,7 +98,7 @@ pub fn write_losses(
 ) -> Step
     ensures { WritesLossesBy first last w (lent sequences) (lent values) (lent pages) (lent blocks) (lent_mut words) result }
 {
-    let verdict = admits(
+    if let Err(why) = admits(
         w,
         sequences.len(),
         values.len(),
@@ -101,8 +106,7 @@ pub fn write_losses(
         blocks.len(),
         NO_LIST,
         Arguments::Range(first, last),
-    );
-    if let Verdict::Refuse(why) = verdict {
+    ) {
         return refuse(w, why);
     }
     let count = range_count(first, last);
@@ -112,7 +116,7 @@ pub fn write_losses(
         }
     }
     let n = put_losses(w, sequences, pages, blocks, words, first, count);
-    reply(w, Answer::Found(n as u32))
+    reply(w, Ok(Answer::Found(n as u32)))
 }
 
 // The losses of first..last that a loss list names, a byte for each sequence; how many they are. Only a list of write_losses is taken.
@@ -129,7 +133,7 @@ pub fn read_losses(
 ) -> Step
     ensures { ReadsLossesBy first last w (lent sequences) (lent values) (lent pages) (lent blocks) (lent words) (lent_mut lost) result }
 {
-    let verdict = admits(
+    if let Err(why) = admits(
         w,
         sequences.len(),
         values.len(),
@@ -137,8 +141,7 @@ pub fn read_losses(
         blocks.len(),
         NO_LIST,
         Arguments::Range(first, last),
-    );
-    if let Verdict::Refuse(why) = verdict {
+    ) {
         return refuse(w, why);
     }
     let count = range_count(first, last);
@@ -149,5 +152,5 @@ pub fn read_losses(
         return refuse(w, Refusal::LossList);
     }
     let n = put_flags(lost, words, first, count);
-    reply(w, Answer::Found(n))
+    reply(w, Ok(Answer::Found(n)))
 }

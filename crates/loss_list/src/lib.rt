@@ -22,10 +22,7 @@ pub fn most_words(count: u32) -> usize
 pub fn run_count(length: u32) -> usize
     ensures { result ≡ run_count_of length }
 {
-    if length < 2 {
-        return length as usize;
-    }
-    2
+    length.min(2) as usize
 }
 
 // The first word of a run: its sequence, with its top bit set if the run has three or more.

@@ -1,10 +1,9 @@
 // A loss list read word by word: which sequences it names, and whether it is the list that the writer has for them. Only then are bytes
 // written.
-ghost use Rattle.std.specs.Prelude.{◌≡◌, true, ◌+◌, ◌≤◌, ◌<◌, ◌^◌, length, replicate};
-ghost use Rattle.std.proofs.lemmas.List.Edits.{sets};
+ghost use Rattle.std.specs.Prelude.{◌≡◌, true, ◌≤◌, ◌<◌, ◌^◌, length};
 ghost use Rattle.model.specs.Losses.{is_loss_list_of};
 ghost use Rattle.laws_losses.specs.Marks.{single, opens, mark_of};
-ghost use Rattle.laws_losses.specs.Reading.{turn as turn_of, least_gap_of, is_opened_of};
+ghost use Rattle.laws_losses.specs.Reading.{turn as turn_of, least_gap_of};
 ghost use Rattle.loss_list.specs.Promises.{phase_of, turned_by, PutsFlags};
 
 use call_base::distance;
@@ -12,7 +11,7 @@ use window::refusals::is_wire_number;
 
 // What stands before the next distance that no word has decided: nothing that is lost; a run of one word; a longer run; or at that
 // distance the first word of a run whose second has not come.
-#[derive(Clone, Copy)]
+#[derive(Clone, Copy, PartialEq, Eq)]
 pub enum Phase {
     Clear,
     Alone,
@@ -20,12 +19,21 @@ pub enum Phase {
     Opened,
 }
 
-// What a word says from there on: so many sequences that are not lost, then so many that are, and the phase after them; or that no list
-// has it there.
+// What a word says from there on: so many sequences that are not lost, then so many that are, and the phase after them. None where no list
+// has the word there.
 #[derive(Clone, Copy)]
-pub enum Turn {
-    Refused,
-    Taken(u32, u32, Phase),
+pub struct Turn {
+    gap: u32,
+    lost: u32,
+    phase: Phase,
+}
+
+impl Turn {
+    fn new(gap: u32, lost: u32, phase: Phase) -> Turn
+        ensures { (result.gap ≡ gap) × (result.lost ≡ lost) × (result.phase ≡ phase) }
+    {
+        Turn { gap, lost, phase }
+    }
 }
 
 // How many sequences must not be lost before the next run: runs do not touch.
@@ -33,57 +41,50 @@ fn least_gap(phase: Phase) -> u32
     ensures { result ≡ least_gap_of (phase_of phase) }
 {
     match phase {
-        Phase::Clear => 0,
-        Phase::Alone => 1,
-        Phase::Ended => 1,
-        Phase::Opened => 0,
+        Phase::Clear | Phase::Opened => 0,
+        Phase::Alone | Phase::Ended => 1,
     }
 }
 
 // A word without its top bit, at distance `d`: the second of a run, one that makes a run of one a run of two, or a run of its own.
-fn single_turn(count: u32, at: u32, phase: Phase, d: u32) -> Turn
+fn single_turn(count: u32, at: u32, phase: Phase, d: u32) -> Option<Turn>
     requires { (count ≤ 65536) × (at ≤ count) }
     ensures { turned_by at result ≡ turn_of count at (phase_of phase) (single d) }
 {
     if count <= d {
-        return Turn::Refused;
+        return None;
     }
-    if let Phase::Opened = phase {
+    if phase == Phase::Opened {
         if d < at + 2 {
-            return Turn::Refused;
+            return None;
         }
-        return Turn::Taken(0, d + 1 - at, Phase::Ended);
+        return Some(Turn::new(0, d + 1 - at, Phase::Ended));
     }
-    if let Phase::Alone = phase {
-        if d == at {
-            return Turn::Taken(0, 1, Phase::Ended);
-        }
+    if phase == Phase::Alone && d == at {
+        return Some(Turn::new(0, 1, Phase::Ended));
     }
     if d < at + least_gap(phase) {
-        return Turn::Refused;
+        return None;
     }
-    Turn::Taken(d - at, 1, Phase::Alone)
+    Some(Turn::new(d - at, 1, Phase::Alone))
 }
 
 // A word with its top bit, at distance `d`: the first of a run of three or more.
-fn opened_turn(count: u32, at: u32, phase: Phase, d: u32) -> Turn
+fn opened_turn(count: u32, at: u32, phase: Phase, d: u32) -> Option<Turn>
     requires { (count ≤ 65536) × (at ≤ count) }
     ensures { turned_by at result ≡ turn_of count at (phase_of phase) (opens d) }
 {
-    if count <= d {
-        return Turn::Refused;
-    }
-    if let Phase::Opened = phase {
-        return Turn::Refused;
+    if count <= d || phase == Phase::Opened {
+        return None;
     }
     if d < at + least_gap(phase) {
-        return Turn::Refused;
+        return None;
     }
-    Turn::Taken(d - at, 0, Phase::Opened)
+    Some(Turn::new(d - at, 0, Phase::Opened))
 }
 
 // A word met at distance `at`, in a range of `count` sequences from `first` on.
-fn word_turn(first: u32, count: u32, at: u32, phase: Phase, word: u32) -> Turn
+fn word_turn(first: u32, count: u32, at: u32, phase: Phase, word: u32) -> Option<Turn>
     requires { (count ≤ 65536) × (at ≤ count) }
     ensures { turned_by at result ≡ turn_of count at (phase_of phase) (mark_of first word) }
 {
@@ -94,18 +95,6 @@ fn word_turn(first: u32, count: u32, at: u32, phase: Phase, word: u32) -> Turn
     opened_turn(count, at, phase, d)
 }
 
-// Whether a run's second word has not come.
-fn is_opened(phase: Phase) -> bool
-    ensures { result ≡ is_opened_of (phase_of phase) }
-{
-    match phase {
-        Phase::Clear => false,
-        Phase::Alone => false,
-        Phase::Ended => false,
-        Phase::Opened => true,
-    }
-}
-
 // Whether the list is that of some set of losses among the `count` sequences from `first` on.
 pub fn is_loss_list(words: &[u32], first: u32, count: u32) -> bool
     requires { (first < 2 ^ 31) × (count ≤ 65536) }
@@ -113,30 +102,14 @@ pub fn is_loss_list(words: &[u32], first: u32, count: u32) -> bool
 {
     let mut at: u32 = 0;
     let mut phase = Phase::Clear;
-    let mut i: usize = 0;
-    while i < words.len() {
-        let turned = word_turn(first, count, at, phase, words[i]);
-        let Turn::Taken(gap, lost, next) = turned else {
+    for &word in words {
+        let Some(turn) = word_turn(first, count, at, phase, word) else {
             return false;
         };
-        at = at + gap + lost;
-        phase = next;
-        i += 1;
+        at += turn.gap + turn.lost;
+        phase = turn.phase;
     }
-    !is_opened(phase)
-}
-
-// `number` bytes from place `at` on set to `byte`.
-fn fill(bytes: &mut [u8], at: usize, number: usize, byte: u8)
-    requires { at + number ≤ length bytes.old }
-    ensures { bytes.new ≡ sets bytes.old at (replicate number byte) }
-{
-    let end = at + number;
-    let mut i = at;
-    while i < end {
-        bytes[i] = byte;
-        i += 1;
-    }
+    phase != Phase::Opened
 }
 
 // One byte for each of the `count` sequences: 1 if the list names it, 0 if not. How many it names.
@@ -146,20 +119,19 @@ pub fn put_flags(bytes: &mut [u8], words: &[u32], first: u32, count: u32) -> u32
 {
     let mut at: u32 = 0;
     let mut phase = Phase::Clear;
-    let mut i: usize = 0;
     let mut total: u32 = 0;
-    while i < words.len() {
-        let turned = word_turn(first, count, at, phase, words[i]);
-        let Turn::Taken(gap, lost, next) = turned else {
+    for &word in words {
+        let Some(turn) = word_turn(first, count, at, phase, word) else {
             return total;
         };
-        fill(bytes, at as usize, gap as usize, 0);
-        fill(bytes, (at + gap) as usize, lost as usize, 1);
-        at = at + gap + lost;
-        phase = next;
-        total += lost;
-        i += 1;
+        let kept = at + turn.gap;
+        let end = kept + turn.lost;
+        bytes[at as usize..kept as usize].fill(0);
+        bytes[kept as usize..end as usize].fill(1);
+        at = end;
+        phase = turn.phase;
+        total += turn.lost;
     }
-    fill(bytes, at as usize, (count - at) as usize, 0);
+    bytes[at as usize..count as usize].fill(0);
     total
 }

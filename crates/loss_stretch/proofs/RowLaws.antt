@@ -19,8 +19,9 @@ use Rattle.window.specs.Memory.{position}
 use Rattle.model.specs.Table.{sequence_at_of}
 use Rattle.page_base.specs.declared.PageWords.{PageWords}
 use Rattle.page_base.specs.Page.{words_at, part_of}
+use Rattle.page_base.proofs.PartLaws.{part_length}
+use Rattle.call_base.proofs.FitLaws.{sequence-bounds}
 use Rattle.call_base.specs.Promises.{reached_by, Reachable}
-use Rattle.call_base.proofs.RetiredLaws.{reached-lt}
 use Rattle.acknowledge.specs.Promises.{Masks, cells_for, StandsIn}
 use Rattle.acknowledge.proofs.StepLaws.{row-position, row-sequence}
 use Rattle.loss_stretch.specs.Promises.{holds_in, row_end_of, seen_live, MasksRow, Stretches}
@@ -61,34 +62,58 @@ mask-holds ss filled row n mask m j l = bool (is_set mask j)
     absurd (not_set mask j t (ap (bit_at mask) (sym at) ∙ m.all x.0 x.1 (x.2, omega (arith, x.3)))))
     (λ h. t ∙ sym h))
 
+-- ---- where a stretch ends
+
+-- the bits from `slot` up to the end are as bit `slot`
+pub end-alike : (mask slot end : ℕ) → mask < 2 ^ 64 → slot < 64 → end ≡ row_end_of mask slot
+    → (slot < end) × (end ≤ 64) × ((j : ℕ) → slot ≤ j → j < end → is_set mask j ≡ is_set mask slot)
+end-alike mask slot end fits l e = bool (is_set mask slot)
+    (λ t.
+    let i = lowest-is ((2 ^ 64 - 1) - mask) slot (omega arith) in
+    let is : end ≡ lowest ((2 ^ 64 - 1) - mask) slot = rw t at e in
+    let set : bit_at mask slot ≡ 1 = eqb-true (bit_at mask slot) 1 t in
+    let own : (slot ≡ end → ⊥) = λ q. omega (arith, is, i.held (omega (arith, is, q)), bit_not 64 slot mask fits l, set, ap (λ (x : ℕ). bit_at ((2 ^ 64 - 1) - mask) x) (q ∙ is)) in (
+      omega (arith, is, i.from, own),
+      omega (arith, is, i.top),
+      λ j a b. eq-eqb (bit_at mask j) 1 (omega (arith, i.none j a (omega (arith, is)), bit_not 64 j mask fits (omega (arith, is, i.top)), bit-lt mask j)) ∙ sym t,
+    ))
+    (λ t.
+    let i = lowest-is mask slot (omega arith) in
+    let is : end ≡ lowest mask slot = rw t at e in
+    let own : (slot ≡ end → ⊥) = λ q. not_set mask slot t (ap (bit_at mask) (q ∙ is) ∙ i.held (omega (arith, is, q))) in (
+      omega (arith, is, i.from, own),
+      omega (arith, is, i.top),
+      λ j a b. ne_eqb (bit_at mask j) 1 (λ q. omega (arith, q, i.none j a (omega (arith, is)))) ∙ sym t,
+    ))
+
 -- ---- the mask of a row; p is the position of s, r is what `reachable` says of its page
 
 module _ (h : AdaptiveReceiverPacketWindow) (ss pages blocks : List ℕ) where
   abbrev seen : ℕ → Bool
   seen = seen_live h ss pages blocks
 
-  module _ (s p r : ℕ) (e : p ≡ position h.window_size s) (reach : Reachable h blocks (p / 64) r) where
+  module _ (s p : ℕ) (r : Bool) (e : p ≡ position h.window_size s) (reach : Reachable h blocks (p / 64) r) where
     -- the sequences of the row have one page
     row_seen : (j : ℕ) → j < 64 →
         let w = words_at pages (p / 64) in
-        seen (64 * (s / 64) + j) ≡ (eqb r 1 && holds_in (part_of (p / 64) ss) w.filled (cells_for h.n w) (64 * (s / 64) + j))
+        seen (64 * (s / 64) + j) ≡ (r && holds_in (part_of (p / 64) ss) w.filled (cells_for h.n w) (64 * (s / 64) + j))
     unfolding seen_live
     row_seen j l =
         let x = 64 * (s / 64) + j in
         let at : position h.window_size x / 64 ≡ p / 64 = omega (arith, row-position h.window_size s j l, e) in
-        ap (λ (g : ℕ). eqb (reached_by h blocks g) 1 && holds_in (part_of g ss) (words_at pages g).filled (cells_for h.n (words_at pages g)) x) at
-        ∙ ap (λ (y : ℕ). eqb y 1 && holds_in (part_of (p / 64) ss) (words_at pages (p / 64)).filled (cells_for h.n (words_at pages (p / 64))) x) (sym reach)
+        ap (λ (g : ℕ). reached_by h blocks g && holds_in (part_of g ss) (words_at pages g).filled (cells_for h.n (words_at pages g)) x) at
+        ∙ ap (λ (y : Bool). y && holds_in (part_of (p / 64) ss) (words_at pages (p / 64)).filled (cells_for h.n (words_at pages (p / 64))) x) (sym reach)
 
     -- none of a page that is not reachable
-    pub row-unreachable : r ≡ 0 → MasksRow h ss pages blocks s 0
+    pub row-unreachable : r ≡ false → MasksRow h ss pages blocks s 0
     row-unreachable z j l = ne_eqb (bit_at 0 j) 1 (λ q. omega (arith, q, bit-none j)) ∙ sym (row_seen j l ∙ rw z refl)
 
     -- else those that the page's mask has
-    pub row-reached : (r ≡ 0 → ⊥) → (w : PageWords) (cs : List ℕ) (mask : ℕ) → w ≡ words_at pages (p / 64) → cs ≡ part_of (p / 64) ss
+    pub row-reached : r ≡ true → (w : PageWords) (cs : List ℕ) (mask : ℕ) → w ≡ words_at pages (p / 64) → cs ≡ part_of (p / 64) ss
         → StandsIn h.n w cs (s / 64) mask → MasksRow h ss pages blocks s mask
     row-reached n w cs mask ew ec t j l =
         let u = subst (λ (x : PageWords). StandsIn h.n x (part_of (p / 64) ss) (s / 64) mask) ew (subst (λ (x : List ℕ). StandsIn h.n w x (s / 64) mask) ec t) in
-        mask-holds _ _ (s / 64) _ mask u j l ∙ sym (row_seen j l ∙ rw (eq-eqb r 1 (omega (arith, reached-lt h blocks (p / 64), reach))) refl)
+        mask-holds _ _ (s / 64) _ mask u j l ∙ sym (row_seen j l ∙ rw n refl)
 
   -- ---- a stretch
 
@@ -96,40 +121,9 @@ module _ (h : AdaptiveReceiverPacketWindow) (ss pages blocks : List ℕ) where
   row_same : (s t mask : ℕ) → s / 64 ≡ t / 64 → MasksRow h ss pages blocks s mask → MasksRow h ss pages blocks t mask
   row_same s t mask e m j l = m j l ∙ ap (λ (x : ℕ). seen (64 * x + j)) e
 
-  -- the bits from `slot` up to the end are as bit `slot`
-  end-alike : (mask slot end : ℕ) → mask < 2 ^ 64 → slot < 64 → end ≡ row_end_of mask slot
-      → (slot < end) × (end ≤ 64) × ((j : ℕ) → slot ≤ j → j < end → is_set mask j ≡ is_set mask slot)
-  end-alike mask slot end fits l e = bool (is_set mask slot)
-      (λ t.
-      let i = lowest-is ((2 ^ 64 - 1) - mask) slot (omega arith) in
-      let is : end ≡ lowest ((2 ^ 64 - 1) - mask) slot = rw t at e in
-      let set : bit_at mask slot ≡ 1 = eqb-true (bit_at mask slot) 1 t in
-      let own : (slot ≡ end → ⊥) = λ q. omega (arith, is, i.held (omega (arith, is, q)), bit_not 64 slot mask fits l, set, ap (λ (x : ℕ). bit_at ((2 ^ 64 - 1) - mask) x) (q ∙ is)) in (
-        omega (arith, is, i.from, own),
-        omega (arith, is, i.top),
-        λ j a b. eq-eqb (bit_at mask j) 1 (omega (arith, i.none j a (omega (arith, is)), bit_not 64 j mask fits (omega (arith, is, i.top)), bit-lt mask j)) ∙ sym t,
-      ))
-      (λ t.
-      let i = lowest-is mask slot (omega arith) in
-      let is : end ≡ lowest mask slot = rw t at e in
-      let own : (slot ≡ end → ⊥) = λ q. not_set mask slot t (ap (bit_at mask) (q ∙ is) ∙ i.held (omega (arith, is, q))) in (
-        omega (arith, is, i.from, own),
-        omega (arith, is, i.top),
-        λ j a b. ne_eqb (bit_at mask j) 1 (λ q. omega (arith, q, i.none j a (omega (arith, is)))) ∙ sym t,
-      ))
-
-  -- a bit that is not set is 0
-  not-is-clear : (mask j : ℕ) → not (is_set mask j) ≡ eqb (bit_at mask j) 0
-  not-is-clear mask j = bool (is_set mask j)
-      (λ t. rw t (sym (ne_eqb (bit_at mask j) 0 (λ q. omega (arith, q, eqb-true (bit_at mask j) 1 t)))))
-      (λ t. rw t (sym (eq-eqb (bit_at mask j) 0 (zero_bit t))))
-    where
-      zero_bit : is_set mask j ≡ false → bit_at mask j ≡ 0
-      zero_bit t = elim (dec_le 1 (bit_at mask j)) [ yes q ↦ absurd (not_set mask j t (omega (arith, bit-lt mask j))) | no q ↦ omega arith ]
-
   -- s is the sequence at distance d, and x not more than the bits up to the end
   module _ (first count d s mask end : ℕ) (fits : mask < 2 ^ 64) (e : s ≡ sequence_at_of first d) (row : MasksRow h ss pages blocks s mask) (q : end ≡ row_end_of mask (s % 64)) where
-    pub end_after : (s % 64 < end) × (end ≤ 64)
+    end_after : (s % 64 < end) × (end ≤ 64)
     end_after = let a = end-alike mask (s % 64) end fits (omega arith) q in (a.0, a.1)
 
     at_row : (j : ℕ) → d ≤ j → j < d + (end - s % 64) → sequence_at_of first j ≡ 64 * (s / 64) + (s % 64 + (j - d))
@@ -139,8 +133,8 @@ module _ (h : AdaptiveReceiverPacketWindow) (ss pages blocks : List ℕ) where
         ap (sequence_at_of first) (sym k) ∙ row-sequence first d (j - d) l ∙ ap (λ (y : ℕ). 64 * (y / 64) + (y % 64 + (j - d))) (sym e)
 
     -- b is the bit of s
-    pub stretch : (b x : ℕ) → b ≡ bit_at mask (s % 64) → 0 < x → x ≤ end - s % 64 → d + x ≤ count
-        → Stretches h ss pages blocks first count d (record { mask = mask; lost = eqb b 0; length = x })
+    pub stretch : (b : Bool) (x : ℕ) → b ≡ is_set mask (s % 64) → 0 < x → x ≤ end - s % 64 → d + x ≤ count
+        → Stretches h ss pages blocks first count d (record { mask = mask; lost = not b; length = x })
     stretch b x i p l u = record {
       some = p;
       inside = u;
@@ -149,7 +143,7 @@ module _ (h : AdaptiveReceiverPacketWindow) (ss pages blocks : List ℕ) where
           let bits = end-alike mask (s % 64) end fits (omega arith) q in
           ap (λ (y : ℕ). not (seen y)) (at_row j from (omega arith))
           ∙ ap not (sym (row k (omega (arith, end_after))) ∙ bits.2 k (omega arith) (omega (arith, end_after)))
-          ∙ not-is-clear mask (s % 64) ∙ ap (λ (y : ℕ). eqb y 0) (sym i);
+          ∙ ap not (sym i);
       knows = λ some-before other.
           row_same s (sequence_at_of first (d + x)) mask (next_row x l other) row;
     }
@@ -157,5 +151,5 @@ module _ (h : AdaptiveReceiverPacketWindow) (ss pages blocks : List ℕ) where
         next_row : (x : ℕ) → x ≤ end - s % 64 → (sequence_at_of first (d + x) % 64 ≡ 0 → ⊥) → s / 64 ≡ sequence_at_of first (d + x) / 64
         next_row x l other = omega (arith, e, end_after)
 
--- what the tactics know of a row whose page is not reachable
-pub ruleset unreached = (row-unreachable)
+-- what the tactics know of a row's mask
+pub ruleset masks = (row-unreachable, row-reached, part_length, sequence-bounds)

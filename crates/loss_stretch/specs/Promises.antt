@@ -25,7 +25,7 @@ module _ (h : AdaptiveReceiverPacketWindow) (ss pages blocks : List ℕ) where
   seen_live s =
       let g = position h.window_size s / 64 in
       let w = words_at pages g in
-      eqb (reached_by h blocks g) 1 && holds_in (part_of g ss) w.filled (cells_for h.n w) s
+      reached_by h blocks g && holds_in (part_of g ss) w.filled (cells_for h.n w) s
 
   -- the sequence at distance d from first is not
   abbrev pub seen_lost : (first d : ℕ) → Bool

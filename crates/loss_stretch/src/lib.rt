@@ -2,7 +2,7 @@
 // one page.
 #![tactic(auto)]
 
-ghost use Rattle.std.specs.Prelude.{◌≡◌, ◌<◌};
+ghost use Rattle.std.specs.Prelude.{◌≡◌, ◌≤◌, ◌<◌};
 ghost use Rattle.acknowledge.specs.Promises.{ListsLent};
 ghost use Rattle.loss_stretch.specs.Promises.{row_end_of, MasksRow, KnowsAt, KnowsRow, Stretches};
 
@@ -13,7 +13,7 @@ use window::AdaptiveReceiverPacketWindow;
 use window::memory::{PAGE_SLOTS, position};
 
 // Bit j: the sequence at position j of the row of `sequence` is live.
-#[tactic(auto, using(crate::proofs::RowLaws::unreached))]
+#[tactic(auto, using(crate::proofs::RowLaws::masks))]
 fn live_mask(
     w: AdaptiveReceiverPacketWindow,
     sequences: &[u32],
@@ -25,7 +25,7 @@ fn live_mask(
     ensures { MasksRow w sequences.now pages.now blocks.now sequence result }
 {
     let page = position(w.window_size, sequence) / PAGE_SLOTS;
-    if reachable(w, blocks, page) == 0 {
+    if !reachable(w, blocks, page) {
         return 0;
     }
     let words = page_words(pages, page);
@@ -46,10 +46,8 @@ fn row_at(
     requires { ListsLent w sequences.now pages.now blocks.now × KnowsAt w sequences.now pages.now blocks.now sequence d mask }
     ensures { MasksRow w sequences.now pages.now blocks.now sequence result }
 {
-    if 0 < d {
-        if sequence % 64 != 0 {
-            return mask;
-        }
+    if 0 < d && sequence % 64 != 0 {
+        return mask;
     }
     live_mask(w, sequences, pages, blocks, sequence)
 }
@@ -57,9 +55,10 @@ fn row_at(
 // The first bit from `slot` on that is not as bit `slot` is; 64 if all are.
 fn row_end(mask: u64, slot: usize) -> usize
     requires { slot < 64 }
-    ensures { result ≡ row_end_of mask slot }
+    ensures value { result ≡ row_end_of mask slot }
+    ensures within { (slot < result) × (result ≤ 64) }
 {
-    if words::bit(mask, slot) == 1 {
+    if words::bit(mask, slot) {
         return words::lowest(!mask, slot);
     }
     words::lowest(mask, slot)
@@ -91,18 +90,11 @@ pub fn next_stretch(
     let sequence = sequence_at(first, d);
     let slot = (sequence % 64) as usize;
     let row = row_at(w, sequences, pages, blocks, sequence, d, mask);
-    let lost = words::bit(row, slot) == 0;
+    let lost = !words::bit(row, slot);
     let length = (row_end(row, slot) - slot) as u32;
-    if count - d < length {
-        return Stretch {
-            mask: row,
-            lost,
-            length: count - d,
-        };
-    }
     Stretch {
         mask: row,
         lost,
-        length,
+        length: length.min(count - d),
     }
 }

@@ -1,24 +1,22 @@
 -- Refused as admits says, or else the answer of checked. Assumes nothing.
 use Rattle.window.specs.Memory.{memory}
-use Rattle.window.specs.Lent.{ListsFit}
 use Rattle.model.specs.Calls.{check}
 use Rattle.call_base.specs.Answers.{state_of}
 use Rattle.call_base.proofs.MeetsLaws.{asked-refusal, asked-fits, checked-meets}
 use Rattle.call_check.proofs.check.Goals as goal
 
-pub returns-in-Refuse : goal.returns-in-Refuse
-returns-in-Refuse c =
+pub returns-in-Err : goal.returns-in-Err
+returns-in-Err c =
     let s = c.args in
-    asked-refusal check (state_of s.w (memory s.sequences.now s.values.now s.pages.now s.blocks.now)) c.admits-verdict.result c.admits-verdict.ensures _ _ c.in-Refuse.is c.refuse.ensures
+    asked-refusal check (state_of s.w (memory s.sequences.now s.values.now s.pages.now s.blocks.now)) _ _ c.in-Err.ensures c.refuse.ensures
 
 pub checked-requires : goal.checked-requires
 checked-requires c =
     let s = c.args in
-    let fit : ListsFit s.w s.sequences.now s.values.now s.pages.now s.blocks.now = asked-fits check (state_of s.w (memory s.sequences.now s.values.now s.pages.now s.blocks.now)) c.admits-verdict.result c.admits-verdict.ensures c.in_default.in_default-own.keys2 in
-    fit
+    asked-fits check (state_of s.w (memory s.sequences.now s.values.now s.pages.now s.blocks.now)) c.in_default.ensures
 
 pub returns : goal.returns
 returns c =
     let s = c.args in
-    checked-meets check (state_of s.w (memory s.sequences.now s.values.now s.pages.now s.blocks.now)) c.admits-verdict.result c.admits-verdict.ensures c.in_default.in_default-own.keys2 _ _ c.reply.ensures (λ q. c.checked.ensures.unsound)
-    c.checked.ensures.sound
+    checked-meets check (state_of s.w (memory s.sequences.now s.values.now s.pages.now s.blocks.now)) c.in_default.ensures _ _ c.reply.ensures
+    (λ q. c.checked.ensures.unsound) c.checked.ensures.sound

@@ -1,14 +1,15 @@
 -- A stretch that is lost lengthens the run; one that is not ends it, and its words are put into the list. Assumes nothing.
-use mathlib.Core.Path.{◌≡◌}
-use Prim.Native.Nat.{◌-◌, ◌≤◌}
-use lib.ListN.{length}
+use Rattle.std.proofs.Common.{◌-◌, ◌≤◌}
 use Rattle.laws_losses.specs.Loops.{Wrote}
 use Rattle.loss_stretch.specs.Promises.{seen_lost, KnowsRow}
 use Rattle.call_losses.proofs.put_losses.Given as goal
 
 abbrev pub invariant-loop-d : goal.invariant-loop-d
-invariant-loop-d l =
-    (l.d ≤ l.count) × (length l.words ≡ length l.initial.words) × Wrote (seen_lost l.w l.sequences l.pages l.blocks l.first) l.first l.count l.initial.words l.start l.run l.d l.at l.words × KnowsRow l.w l.sequences l.pages l.blocks l.first l.d l.mask
+invariant-loop-d l = record {
+  within : l.d ≤ l.count;
+  wrote : Wrote (seen_lost l.w l.sequences l.pages l.blocks l.first) l.first l.count l.initial.words l.start l.run l.d l.at l.words;
+  knows : KnowsRow l.w l.sequences l.pages l.blocks l.first l.d l.mask;
+}
 
 abbrev pub decreases-loop-d : goal.decreases-loop-d
 decreases-loop-d l = l.count - l.d

@@ -1,45 +1,9 @@
--- A page that is not reachable has no live sequence (row-unreachable); else the page's mask is that of the row (row-reached).
--- Assumes nothing.
-use mathlib.Core.Path.{sym, ap, subst, ◌∙◌}
-use Prim.Native.Nat.{ℕ, ◌/◌}
-use native.Mathlib.Omega.{arith}
-use lib.ListN.{length}
-use Rattle.page_base.proofs.PartLaws.{part_length}
-use Rattle.call_base.proofs.FitLaws.{PageBounds, sequence-bounds}
-use Rattle.acknowledge.specs.Promises.{ListsLent}
+-- The page's mask is that of the row (row-reached). Assumes nothing.
 use Rattle.loss_stretch.proofs.RowLaws.{row-reached}
 use Rattle.loss_stretch.proofs.live_mask.Goals as goal
-
-pub reachable-requires : goal.reachable-requires
-reachable-requires c =
-    let page : PageBounds c.args.w.window_size (c.position-page.result / 64) = subst (λ (q : ℕ). PageBounds c.args.w.window_size (q / 64)) (sym c.position-page.ensures) (sequence-bounds c.args.w.window_size c.args.sequence) in
-    let fit : ListsLent c.args.w c.args.sequences.now c.args.pages.now c.args.blocks.now = c.requires in
-    (page.page-fits, omega (arith, page.block_words, fit.blocks_long))
-
-pub page_words-words-requires : goal.page_words-words-requires
-page_words-words-requires c =
-    let page : PageBounds c.args.w.window_size (c.position-page.result / 64) = subst (λ (q : ℕ). PageBounds c.args.w.window_size (q / 64)) (sym c.position-page.ensures) (sequence-bounds c.args.w.window_size c.args.sequence) in
-    let fit : ListsLent c.args.w c.args.sequences.now c.args.pages.now c.args.blocks.now = c.requires in
-    (page.page-fits, omega (arith, page.words, fit.pages_long))
-
-pub page_cells-cells-requires : goal.page_cells-cells-requires
-page_cells-cells-requires c =
-    let page : PageBounds c.args.w.window_size (c.position-page.result / 64) = subst (λ (q : ℕ). PageBounds c.args.w.window_size (q / 64)) (sym c.position-page.ensures) (sequence-bounds c.args.w.window_size c.args.sequence) in
-    let fit : ListsLent c.args.w c.args.sequences.now c.args.pages.now c.args.blocks.now = c.requires in
-    omega (arith, page.cells, fit.sequences_long)
-
-pub page_mask-requires : goal.page_mask-requires
-page_mask-requires c =
-    let fit : ListsLent c.args.w c.args.sequences.now c.args.pages.now c.args.blocks.now = c.requires in
-    let page : PageBounds c.args.w.window_size (c.position-page.result / 64) = subst (λ (q : ℕ). PageBounds c.args.w.window_size (q / 64)) (sym c.position-page.ensures) (sequence-bounds c.args.w.window_size c.args.sequence) in
-    let f = fit in (
-      ap length c.page_cells-cells.ensures ∙ part_length _ c.args.sequences.now (omega (arith, page.cells, f.sequences_long)),
-      omega (arith, f.within.n_high),
-    )
 
 pub returns : goal.returns
 returns c =
     let s = c.args in
-    let r = c.reachable in
-    row-reached s.w s.sequences.now s.pages.now s.blocks.now s.sequence c.position-page.result r.result c.position-page.ensures r.ensures (λ e. omega (arith, e)) _ _ _
+    row-reached s.w s.sequences.now s.pages.now s.blocks.now s.sequence c.position-page.result _ c.position-page.ensures c.reachable.ensures (cc) _ _ _
     c.page_words-words.ensures c.page_cells-cells.ensures c.page_mask.ensures

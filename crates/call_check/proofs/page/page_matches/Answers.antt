@@ -1,20 +1,17 @@
--- Two clauses that fail, and the rest, which is the test of a dense page; the laws are in MatchLaws. Assumes nothing.
-use Rattle.call_check.proofs.MatchLaws.{nonempty-differs, empty-marked, unmarked, held, matches}
+-- The rest of the clauses is the test of a dense page (MatchLaws). Assumes nothing.
+use Rattle.std.proofs.Common.{◌≡◌, ℕ, Bool, true, false, not, eqb, ◌⊎◌, inl, inr, ap, sym, ◌∙◌, true≢false, ne_eqb, eq-eqb}
+use Rattle.block_marks.specs.Marks.{page_retired_of}
+use Rattle.call_check.proofs.MatchLaws.{matches}
 use Rattle.call_check.proofs.page.page_matches.Goals as goal
-use Rattle.call_check.proofs.page.page_matches.Goals.{then-words-eq0+else-bit-eq1, else-words-eq0}
 
-pub returns-then-not-bit_matches : goal.returns-then-not-bit_matches
-returns-then-not-bit_matches c = nonempty-differs _ _ _ _ _ c.bit_matches.ensures c.if-not-bit_matches.true
-
-pub returns-then-bit-eq1 : goal.returns-then-bit-eq1
-returns-then-bit-eq1 c = empty-marked _ _ _ _ c.if-words-eq0.true _ c.bit.ensures c.if-bit-eq1.true
+-- a page with a mark holds a value: an empty one with a mark was told
+holds : (o : ℕ) (b : Bool) → ((o ≡ 0) × (b ≡ false)) ⊎ (o ≡ 0 → ⊥) → b ≡ true → not (eqb o 0) ≡ true
+holds o b (inl p) e = absurd (true≢false (sym e ∙ p.1))
+holds o b (inr n) e = ap not (ne_eqb o 0 n)
 
 pub returns : goal.returns
+unfolding page_retired_of
 returns c =
     let s = c.args in
-    matches s.w s.words s.block s.page _ c.bit_matches.ensures c.if-not-bit_matches.false
-    (elim c.if-words-eq0.branch [
-      | then-words-eq0+else-bit-eq1 b ↦ unmarked s.w s.words s.block s.page _ b.bit.ensures b.if-bit-eq1.false
-      | else-words-eq0 b ↦ held s.w s.words s.block s.page b.if-words-eq0.false
-    ])
-    _ _ c.retired_pages-retired.ensures c.bit-2.ensures _ c.dense_enough.ensures
+    let noted = rw c.if-not-bit_matches.false at c.bit_matches.ensures in
+    matches s.w s.words s.block s.page noted (λ m. holds s.words.occupied c.bit-marked.result c.else-words-eq0.either (c.bit-marked.ensures ∙ eq-eqb _ 1 m)) _ (cc) _ c.dense_enough.ensures

@@ -1,17 +1,13 @@
-use native.Mathlib.Omega.{arith}
-use Rattle.call_check.proofs.CountLaws.{counting-begins, counting-turn, counting-few, counting-ends}
+-- Each page has at most 64 values (ValueLaws). Assumes nothing.
+use Rattle.std.proofs.Common.{arith, ◌+◌}
+use Rattle.call_check.proofs.ValueLaws.{where-more, where-le}
 use Rattle.call_check.proofs.values.values_where.Goals as goal
-
-pub loop-i-init : goal.loop-i-init
-loop-i-init c = counting-begins _ _ _ _ _ _
 
 pub overflow_add-values : goal.overflow_add-values
 overflow_add-values c =
-    let t = counting-turn _ _ _ _ _ _ _ _ c.loop-i.invariant c.loop-i-test.true _ c.values_at-values.ensures in
-    omega (arith, counting-few _ _ _ _ _ _ _ _ t)
-
-pub loop-i-preserved : goal.loop-i-preserved
-loop-i-preserved c = counting-turn _ _ _ _ _ _ _ _ c.loop-i.invariant c.loop-i-test.true _ c.values_at-values.ensures
-
-pub returns : goal.returns
-returns c = counting-ends _ _ _ _ _ _ _ _ c.loop-i.invariant c.loop-i-test.false
+    let s = c.args in
+    omega (
+      arith,
+      where-more s.pages.now s.blocks.now s.retired_blocks s.retired s.from c.loop-i.i,
+      where-le s.pages.now s.blocks.now s.retired_blocks s.retired s.from (c.loop-i.i + 1),
+    )

@@ -1,43 +1,35 @@
-use Prim.Native.Nat.{◌+◌, ◌≤◌}
+use Prim.Native.Nat.{◌+◌}
+use mathlib.Core.Path.{◌≡◌, refl, ◌∙◌}
 use native.Mathlib.Omega.{arith}
-use Rattle.laws_losses.specs.Reading.{place}
-use Rattle.laws_losses.specs.Loops.{Read}
-use Rattle.laws_losses.proofs.TurnLaws.{read-start}
+use denote.Enum.Bare.{sameb}
+use Rattle.laws_losses.specs.Reading.{is_opened_of}
+use Rattle.loss_list.specs.contracts.read.Phase.{the_type}
+use Rattle.loss_list.specs.declared.read.Phase.{Phase}
+use Rattle.loss_list.specs.declared.read.Phase.TheVariants.{Clear, Alone, Ended, Opened}
 use Rattle.loss_list.specs.Promises.{phase_of}
-use Rattle.loss_list.proofs.ListLaws.{reads_on, not-list, list-closed}
+use Rattle.loss_list.proofs.ListLaws.{turn-within, reads_on, not-list, list-closed}
 use Rattle.loss_list.proofs.read.is_loss_list.Goals as goal
 
-pub loop-i-init : goal.loop-i-init
-loop-i-init c = (omega arith, omega arith, read-start _ _ _)
+is-opened : (p : Phase) → sameb the_type p Opened ≡ is_opened_of (phase_of p)
+is-opened Clear = refl
+is-opened Alone = refl
+is-opened Ended = refl
+is-opened Opened = refl
 
 pub returns-in_default : goal.returns-in_default
 returns-in_default c =
-    not-list _ _ _ c.requires.0 c.requires.1 _ c.loop-i.phase _ c.loop-i.invariant.2 _ c.loop-i-test.true c.word_turn-turned.ensures c.in_default.is
+    not-list _ _ _ c.requires.0 c.requires.1 _ c.loop-word.phase _ c.loop-word.invariant.left (omega arith) c.in_default.ensures
 
-pub overflow_add-at : goal.overflow_add-at
-overflow_add-at c =
+pub loop-word-preserved : goal.loop-word-preserved
+loop-word-preserved c =
+    let t = c.in-Some.turn in
+    let e : c.loop-word.at + (t.gap + t.lost) ≡ c.loop-word.at + t.gap + t.lost = omega arith in
     let s = c.args in
-    let g = c.in-Taken in
-    let goes_on : (c.loop-i.at + g.gap + g.lost ≤ s.count) × Read s.first s.count s.words.now (place (c.loop-i.at + g.gap + g.lost) (phase_of g.next)) (c.loop-i.i + 1) =
-    reads_on _ _ s.words.now _ c.loop-i.phase _ _ c.word_turn-turned.ensures _ _ _ c.in-Taken.is c.loop-i.invariant.2 c.loop-i-test.true in
-    omega (arith, goes_on.0)
-
-pub overflow_add-at-in-loop-i : goal.overflow_add-at-in-loop-i
-overflow_add-at-in-loop-i c =
-    let s = c.args in
-    let g = c.in-Taken in
-    let goes_on : (c.loop-i.at + g.gap + g.lost ≤ s.count) × Read s.first s.count s.words.now (place (c.loop-i.at + g.gap + g.lost) (phase_of g.next)) (c.loop-i.i + 1) =
-    reads_on _ _ s.words.now _ c.loop-i.phase _ _ c.word_turn-turned.ensures _ _ _ c.in-Taken.is c.loop-i.invariant.2 c.loop-i-test.true in
-    omega (arith, goes_on.0)
-
-pub loop-i-preserved : goal.loop-i-preserved
-loop-i-preserved c =
-    let s = c.args in
-    let g = c.in-Taken in
-    let goes_on : (c.loop-i.at + g.gap + g.lost ≤ s.count) × Read s.first s.count s.words.now (place (c.loop-i.at + g.gap + g.lost) (phase_of g.next)) (c.loop-i.i + 1) =
-    reads_on _ _ s.words.now _ c.loop-i.phase _ _ c.word_turn-turned.ensures _ _ _ c.in-Taken.is c.loop-i.invariant.2 c.loop-i-test.true in
-    (omega arith, goes_on.0, goes_on.1)
+    rw e record {
+      within = turn-within s.first _ s.words.now _ c.loop-word.phase c.loop-word.word-index t c.in-Some.ensures;
+      left = reads_on _ _ _ _ c.loop-word.phase _ t c.in-Some.ensures c.loop-word.invariant.left (omega arith);
+    }
 
 pub returns : goal.returns
 returns c =
-    list-closed _ _ _ c.requires.0 c.requires.1 _ c.loop-i.phase _ c.loop-i.invariant.2 (omega arith) _ c.is_opened.ensures
+    c.ne.ensures ∙ list-closed _ _ _ c.requires.0 c.requires.1 _ c.loop-word.phase _ c.loop-word.invariant.left (omega arith) _ (is-opened c.loop-word.phase)
