@@ -6,6 +6,7 @@ ghost use Rattle.line_text.specs.Lines.{line_of};
 ghost use Rattle.line_faults.specs.Faults.{occurrences, letter_count_of, fault_of_parsed, fault_of_text, fault_of_line};
 
 use line_text::{field_count, parse};
+use std::fmt;
 
 // The first that applies, in this order.
 #[derive(Clone, Copy, PartialEq, Eq, Debug)]
@@ -26,6 +27,33 @@ pub enum Fault {
     WindowSize,
     // a call, but no window was made yet
     NoWindow,
+}
+
+// What is told of a line: how the message goes on after "is".
+impl fmt::Display for Fault {
+    ghost use Rattle.std.specs.Prelude.{Some};
+    ghost use Rattle.line_faults.specs.Messages.{fault_text};
+
+    ghost output = { λ fault. Some (fault_text fault) };
+
+    fn fmt<W: fmt::Write>(&self, f: &mut fmt::Formatter<W>) -> fmt::Result {
+        match self {
+            Fault::Long => f.write_str("no call: longer than any call"),
+            Fault::CarriageReturn => f.write_str(
+                "no call: a carriage return in it, lines end in a line feed alone",
+            ),
+            Fault::Space => f.write_str("no call: a space in it, fields are parted by one tab"),
+            Fault::Letter => f.write_str("no call: its first part is no letter of a call"),
+            Fault::FieldCount => f.write_str(
+                "no call: another number of fields than its letter takes",
+            ),
+            Fault::Field => f.write_str(
+                "no call: a field is no decimal number up to 4294967295 without leading zeros",
+            ),
+            Fault::WindowSize => f.write_str("no call: a window_size above 4096"),
+            Fault::NoWindow => f.write_str("no call yet: an n must be taken first"),
+        }
+    }
 }
 
 // How often a byte stands in the line.
