@@ -1,8 +1,8 @@
 -- The listing of live pairs: what is known after some of them, and that nothing is left at each way out. Assumes nothing.
-use mathlib.Core.Path.{◌≡◌, refl, sym, ap, ◌∙◌}
+use mathlib.Core.Path.{◌≡◌, refl, sym, ap, subst, ◌∙◌}
 use mathlib.Core.Bool.{true, false}
 use mathlib.Core.List.{List, [], ◌∷◌, ◌++◌, map, append-nil}
-use Prim.Native.Nat.{ℕ, zero, suc, ◌+◌, ◌-◌, ◌≤◌, ◌<◌}
+use Prim.Native.Nat.{ℕ, zero, suc, min, ◌+◌, ◌-◌, ◌≤◌, ◌<◌}
 use native.Mathlib.Numerals.{add-one}
 use native.Mathlib.Omega.{arith}
 use lib.Dec.{ltb}
@@ -12,9 +12,6 @@ use Rattle.words.proofs.CaseLaws.{bool}
 use Rattle.words.specs.First.{first_from_of}
 use Rattle.words.proofs.FirstLaws.{first-is}
 use borrow.Author.Tests.{ltb-true}
-use denote.Enum.Declared.{tag_of}
-use types.Run.{OneOf, miss}
-use Rattle.window.specs.contracts.answers.Answer as enum
 use Rattle.window.specs.declared.answers.Answer as window
 use Rattle.window.specs.declared.answers.Answer.TheVariants.{Done, New, Replaced, Absent, Found, Pair as Paired, Ended, Released, Refused}
 use Rattle.model.specs.Calls.{Answer, pair, ended, ask, iter}
@@ -35,13 +32,13 @@ unfolding window_does
 asked u n r m fit ok = (m.sound (rw fit refl) ok).answer
 
 -- past the pattern `Pair` its answer has none
-pub none_in : (a : window.Answer) → OneOf (0 ∷ 1 ∷ 2 ∷ 3 ∷ 4 ∷ 6 ∷ 7 ∷ 8 ∷ []) (tag_of enum.the_type a) → (rest : ℕ → List Pair) → and_then (answer_of a) rest ≡ []
+pub none_in : (a : window.Answer) → ((s v next reads : ℕ) → a ≡ Paired s v next reads → ⊥) → (rest : ℕ → List Pair) → and_then (answer_of a) rest ≡ []
 none_in Done t rest = refl
 none_in New t rest = refl
 none_in (Replaced v) t rest = refl
 none_in Absent t rest = refl
 none_in (Found n) t rest = refl
-none_in (Paired s v next reads) t rest = absurd (miss (0 ∷ 1 ∷ 2 ∷ 3 ∷ 4 ∷ 6 ∷ 7 ∷ 8 ∷ []) 5 tt t)
+none_in (Paired s v next reads) t rest = absurd (t s v next reads refl)
 none_in (Ended reads) t rest = refl
 none_in (Released values units) t rest = refl
 none_in (Refused why) t rest = refl
@@ -178,12 +175,11 @@ module _ (u : State) (ss₀ vs₀ ss vs : List ℕ) (cell count : ℕ) (g : SoFa
     values_long = g.values_long;
   }
 
-  -- a list is full
-  pub full-sequences : length ss ≤ count → Lists u ss₀ vs₀ count ss vs
-  full-sequences l = finish (λ fit ok a b. pairs-out (window_of u) cell (capacity_of (window_of u) - count) (omega (arith, a, l, g.sequences_long)))
-
-  pub full-values : length vs ≤ count → Lists u ss₀ vs₀ count ss vs
-  full-values l = finish (λ fit ok a b. pairs-out (window_of u) cell (capacity_of (window_of u) - count) (omega (arith, b, l, g.values_long)))
+  -- no place is left in one of the lists
+  pub full : (r : ℕ) → r ≡ min (length ss₀) (length vs₀) → r ≡ count → Lists u ss₀ vs₀ r ss vs
+  full r m e =
+      subst (λ (n : ℕ). Lists u ss₀ vs₀ n ss vs) (sym e)
+      (finish (λ fit ok a b. pairs-out (window_of u) cell (capacity_of (window_of u) - count) (omega (arith, a, b))))
 
   -- iter gives no pair
   pub no-pair : (r : Left) → Meets (ask (iter cell)) u [] r → ((rest : ℕ → List Pair) → and_then r.answer rest ≡ []) → Lists u ss₀ vs₀ count ss vs
