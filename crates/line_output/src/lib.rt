@@ -45,7 +45,7 @@ fn put_released(out: &mut [u8], at: usize, values: u32, units: u32) -> usize
 fn demotions(w: AdaptiveReceiverPacketWindow) -> u64
     ensures { result ≡ demotions_of w }
 {
-    std::num::wrapping_add_u64(w.single_demotions, w.range_demotions)
+    w.single_demotions.wrapping_add(w.range_demotions)
 }
 
 // The counts of the header: at most 84 bytes.
