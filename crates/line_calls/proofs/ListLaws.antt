@@ -12,15 +12,17 @@ use Rattle.words.proofs.CaseLaws.{bool}
 use Rattle.words.specs.First.{first_from_of}
 use Rattle.words.proofs.FirstLaws.{first-is}
 use borrow.Author.Tests.{ltb-true}
+use Rattle.std.specs.Prelude.{Result, Ok, Err}
 use Rattle.window.specs.declared.answers.Answer as window
-use Rattle.window.specs.declared.answers.Answer.TheVariants.{Done, New, Replaced, Absent, Found, Pair as Paired, Ended, Released, Refused}
+use Rattle.window.specs.declared.refusals.Refusal.{Refusal}
+use Rattle.window.specs.declared.answers.Answer.TheVariants.{Done, New, Replaced, Absent, Found, Pair as Paired, Ended, Released}
 use Rattle.model.specs.Calls.{Answer, pair, ended, ask, iter}
 use Rattle.model.specs.Table.{Pair, pair_of}
 use Rattle.model.specs.Window.{Window, capacity_of, is_reached, cell_pair, reads_of, iter_step, and_then, pairs_from, live_pairs_of}
 use Rattle.model.specs.Steps.{window_does}
 use Rattle.model.specs.Sound.{SoundWithPoint}
 use Rattle.model.specs.Contract.{State, window_of, Left, lengths_fit, Meets}
-use Rattle.call_base.specs.Answers.{answer_of}
+use Rattle.call_base.specs.Answers.{answer_of, given_of}
 use Rattle.call_read.proofs.IterLaws.{capacity-is}
 use Rattle.line_calls.specs.List.{sequences_of, Lists}
 
@@ -31,17 +33,21 @@ pub asked : (u : State) (n : ℕ) (r : Left) → Meets (ask (iter n)) u [] r →
 unfolding window_does
 asked u n r m fit ok = (m.sound (rw fit refl) ok).answer
 
--- past the pattern `Pair` its answer has none
-pub none_in : (a : window.Answer) → ((s v next reads : ℕ) → a ≡ Paired s v next reads → ⊥) → (rest : ℕ → List Pair) → and_then (answer_of a) rest ≡ []
-none_in Done t rest = refl
-none_in New t rest = refl
-none_in (Replaced v) t rest = refl
-none_in Absent t rest = refl
-none_in (Found n) t rest = refl
-none_in (Paired s v next reads) t rest = absurd (t s v next reads refl)
-none_in (Ended reads) t rest = refl
-none_in (Released values units) t rest = refl
-none_in (Refused why) t rest = refl
+-- past the pattern `Ok(Pair)` an answer has none
+given_none : (a : window.Answer) → ((s v next reads : ℕ) → a ≡ Paired s v next reads → ⊥) → (rest : ℕ → List Pair) → and_then (given_of a) rest ≡ []
+given_none Done t rest = refl
+given_none New t rest = refl
+given_none (Replaced v) t rest = refl
+given_none Absent t rest = refl
+given_none (Found n) t rest = refl
+given_none (Paired s v next reads) t rest = absurd (t s v next reads refl)
+given_none (Ended reads) t rest = refl
+given_none (Released values units) t rest = refl
+
+pub none_in : (a : Result window.Answer Refusal) → ((s v next reads : ℕ) → a ≡ Ok (Paired s v next reads) → ⊥) → (rest : ℕ → List Pair)
+    → and_then (answer_of a) rest ≡ []
+none_in (Ok a) t rest = given_none a (λ s v next reads e. t s v next reads (ap Ok e)) rest
+none_in (Err why) t rest = refl
 
 -- the pair of an answer, then one that tells the cell after it
 abbrev next_in : Answer → List Pair

@@ -22,8 +22,7 @@ pub fn live_pairs(
     let mut cell: u32 = 0;
     for count in 0..places {
         let step = iter(w, sequences, values, pages, blocks, cell);
-        let outcome = step.answer;
-        let Answer::Pair(sequence, value, next, reads) = outcome.answer else {
+        let Ok(Answer::Pair(sequence, value, next, _)) = step.answer.answer else {
             return count;
         };
         listed_sequences[count] = sequence;

@@ -6,13 +6,13 @@ ghost use Rattle.line_calls.specs.Calls.{call_of, called, command_of};
 ghost use Rattle.line_program.specs.Program.{unknown_line, new_line, list_line, command_line, said_line};
 ghost use Rattle.line_program.specs.Promises.{KeptIn, AnswersBy, gathered};
 
-use line_calls::list::live_pairs;
 use line_calls::call;
+use line_calls::list::live_pairs;
 use line_output::{put_line, put_list, put_unknown};
 use line_text::{Fields, parse};
+use window::AdaptiveReceiverPacketWindow;
 use window::answers::Answer;
 use window::memory::{BLOCK_WORDS, PAGE_SLOTS, PAGE_WORDS};
-use window::{AdaptiveReceiverPacketWindow, Created};
 
 // The words for the 64 pages of a window of 4096, and for their one block.
 pub const PAGE_LIST: usize = 4096 / PAGE_SLOTS * PAGE_WORDS;
@@ -65,17 +65,16 @@ fn create(
     if 4096 < f.first {
         return unknown(w, sequences, values, pages, blocks, out, at);
     }
-    let made = AdaptiveReceiverPacketWindow::new(
+    match AdaptiveReceiverPacketWindow::new(
         sequences, values, pages, blocks, f.first, f.second, f.third,
-    );
-    match made {
-        Created::New(window) => Answered {
+    ) {
+        Ok(window) => Answered {
             window,
-            at: put_line(out, at, b'n', Answer::Done, window, returned, 0),
+            at: put_line(out, at, b'n', Ok(Answer::Done), window, returned, 0),
         },
-        Created::Refused(why) => Answered {
+        Err(why) => Answered {
             window: w,
-            at: put_line(out, at, b'n', Answer::Refused(why), w, returned, 0),
+            at: put_line(out, at, b'n', Err(why), w, returned, 0),
         },
     }
 }
@@ -135,18 +134,10 @@ fn answer_call(
     };
     let window = step.window;
     let outcome = step.answer;
-    let given = outcome.answer;
+    let count = outcome.count as usize;
     Answered {
         window,
-        at: put_line(
-            out,
-            at,
-            letter,
-            given,
-            window,
-            returned,
-            outcome.count as usize,
-        ),
+        at: put_line(out, at, letter, outcome.answer, window, returned, count),
     }
 }
 
