@@ -33,7 +33,7 @@ pub asked : (u : State) (n : ℕ) (r : Left) → Meets (ask (iter n)) u [] r →
 unfolding window_does
 asked u n r m fit ok = (m.sound (rw fit refl) ok).answer
 
--- past the pattern `Ok(Pair)` an answer has none
+-- past the patterns `Ok` and `Pair` an answer has none
 given_none : (a : window.Answer) → ((s v next reads : ℕ) → a ≡ Paired s v next reads → ⊥) → (rest : ℕ → List Pair) → and_then (given_of a) rest ≡ []
 given_none Done t rest = refl
 given_none New t rest = refl
@@ -44,10 +44,12 @@ given_none (Paired s v next reads) t rest = absurd (t s v next reads refl)
 given_none (Ended reads) t rest = refl
 given_none (Released values units) t rest = refl
 
-pub none_in : (a : Result window.Answer Refusal) → ((s v next reads : ℕ) → a ≡ Ok (Paired s v next reads) → ⊥) → (rest : ℕ → List Pair)
-    → and_then (answer_of a) rest ≡ []
-none_in (Ok a) t rest = given_none a (λ s v next reads e. t s v next reads (ap Ok e)) rest
-none_in (Err why) t rest = refl
+module _ (a : Result window.Answer Refusal) where
+  pub other_none : (g : window.Answer) → a ≡ Ok g → ((s v next reads : ℕ) → g ≡ Paired s v next reads → ⊥) → (rest : ℕ → List Pair) → and_then (answer_of a) rest ≡ []
+  other_none g e t rest = ap (λ (x : Result window.Answer Refusal). and_then (answer_of x) rest) e ∙ given_none g t rest
+
+  pub refused_none : (why : Refusal) → a ≡ Err why → (rest : ℕ → List Pair) → and_then (answer_of a) rest ≡ []
+  refused_none why e rest = ap (λ (x : Result window.Answer Refusal). and_then (answer_of x) rest) e
 
 -- the pair of an answer, then one that tells the cell after it
 abbrev next_in : Answer → List Pair

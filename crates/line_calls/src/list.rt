@@ -22,7 +22,10 @@ pub fn live_pairs(
     let mut cell: u32 = 0;
     for count in 0..places {
         let step = iter(w, sequences, values, pages, blocks, cell);
-        let Ok(Answer::Pair(sequence, value, next, _)) = step.answer.answer else {
+        let Ok(given) = step.answer.answer else {
+            return count;
+        };
+        let Answer::Pair(sequence, value, next, _) = given else {
             return count;
         };
         listed_sequences[count] = sequence;
