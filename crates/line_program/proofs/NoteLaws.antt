@@ -1,10 +1,9 @@
 -- Lines noted one after another. Assumes nothing.
-use Rattle.std.proofs.Common.{◌≡◌, ℕ, ◌+◌, ◌%◌, ◌^◌, true, false, List, [], ◌∷◌, ◌++◌, refl, eq-eqb, ne_eqb}
+use Rattle.std.proofs.Common.{◌≡◌, ℕ, List, [], ◌∷◌, ◌++◌, refl}
 use Rattle.model.specs.Window.{Window}
-use Rattle.line_faults.specs.declared.Fault.{Fault}
 use Rattle.line_program.specs.declared.notes.Notes.{Notes}
 use Rattle.line_program.specs.Program.{line_does, lines_do}
-use Rattle.line_program.specs.Notes.{notes, noted, noted_line, noted_lines}
+use Rattle.line_program.specs.Notes.{noted_line, noted_lines}
 
 pub noted_one : (k : Window) (n : Notes) (l : List ℕ) → noted_lines k n (l ∷ []) ≡ noted_line k n l
 unfolding noted_lines
