@@ -17,7 +17,7 @@ FORMS = [
     ('wrapping_sub on sequences stays', 'call_base/src/lib.rt', 'distance', [r'std::num::wrapping_sub_u32\(sequence, base\)']),
     ('wrapping_sub on sequences stays', 'call_base/src/lib.rt', 'range_count', [r'distance\(first, last\) \+ 1']),
     ('wrapping_sub on sequences stays', 'call_read/src/lib.rt', 'first_from', [r'std::num::wrapping_sub_u32\(sequence, 1\)']),
-    ('Command letters', 'line_text/src/lib.rt', 'field_count', [r"match letter \{", r"b'n' => 3", r"b'i' \| b'e' \| b'd' \| b'q' => 2"]),
+    ('Command letters', 'line_text/src/lib.rt', 'field_count', [r"match letter \{", r"b'n' => Some\(3\)", r"b'i' \| b'e' \| b'd' \| b'q' => Some\(2\)"]),
     ('the units used are carried in the answer', 'call_retire/src/release_retired.rt', 'release_retired', [r'Answer::Released\(visited\.count as u32, visited\.units as u32\)']),
     ('belong to the window as its own constants', 'window/src/lib.rt', 'impl AdaptiveReceiverPacketWindow', [
         r'pub const PAGE_SLOTS: usize = 64;', r'pub const MAX_RETIRED_RELEASED_PER_VISIT: usize = 256;', r'pub fn new\(']),

@@ -1,8 +1,8 @@
 -- The listing of live pairs: what is known after some of them, and that nothing is left at each way out. Assumes nothing.
-use mathlib.Core.Path.{◌≡◌, refl, sym, ap, ◌∙◌}
+use mathlib.Core.Path.{◌≡◌, refl, sym, ap, subst, ◌∙◌}
 use mathlib.Core.Bool.{true, false}
 use mathlib.Core.List.{List, [], ◌∷◌, ◌++◌, map, append-nil}
-use Prim.Native.Nat.{ℕ, zero, suc, ◌+◌, ◌-◌, ◌≤◌, ◌<◌}
+use Prim.Native.Nat.{ℕ, zero, suc, min, ◌+◌, ◌-◌, ◌≤◌, ◌<◌}
 use native.Mathlib.Numerals.{add-one}
 use native.Mathlib.Omega.{arith}
 use lib.Dec.{ltb}
@@ -12,18 +12,17 @@ use Rattle.words.proofs.CaseLaws.{bool}
 use Rattle.words.specs.First.{first_from_of}
 use Rattle.words.proofs.FirstLaws.{first-is}
 use borrow.Author.Tests.{ltb-true}
-use denote.Enum.Declared.{tag_of}
-use types.Run.{OneOf, miss}
-use Rattle.window.specs.contracts.answers.Answer as enum
+use Rattle.std.specs.Prelude.{Result, Ok, Err}
 use Rattle.window.specs.declared.answers.Answer as window
-use Rattle.window.specs.declared.answers.Answer.TheVariants.{Done, New, Replaced, Absent, Found, Pair as Paired, Ended, Released, Refused}
+use Rattle.window.specs.declared.refusals.Refusal.{Refusal}
+use Rattle.window.specs.declared.answers.Answer.TheVariants.{Done, New, Replaced, Absent, Found, Pair as Paired, Ended, Released}
 use Rattle.model.specs.Calls.{Answer, pair, ended, ask, iter}
 use Rattle.model.specs.Table.{Pair, pair_of}
 use Rattle.model.specs.Window.{Window, capacity_of, is_reached, cell_pair, reads_of, iter_step, and_then, pairs_from, live_pairs_of}
 use Rattle.model.specs.Steps.{window_does}
 use Rattle.model.specs.Sound.{SoundWithPoint}
 use Rattle.model.specs.Contract.{State, window_of, Left, lengths_fit, Meets}
-use Rattle.call_base.specs.Answers.{answer_of}
+use Rattle.call_base.specs.Answers.{answer_of, given_of}
 use Rattle.call_read.proofs.IterLaws.{capacity-is}
 use Rattle.line_calls.specs.List.{sequences_of, Lists}
 
@@ -34,17 +33,23 @@ pub asked : (u : State) (n : ℕ) (r : Left) → Meets (ask (iter n)) u [] r →
 unfolding window_does
 asked u n r m fit ok = (m.sound (rw fit refl) ok).answer
 
--- past the pattern `Pair` its answer has none
-pub none_in : (a : window.Answer) → OneOf (0 ∷ 1 ∷ 2 ∷ 3 ∷ 4 ∷ 6 ∷ 7 ∷ 8 ∷ []) (tag_of enum.the_type a) → (rest : ℕ → List Pair) → and_then (answer_of a) rest ≡ []
-none_in Done t rest = refl
-none_in New t rest = refl
-none_in (Replaced v) t rest = refl
-none_in Absent t rest = refl
-none_in (Found n) t rest = refl
-none_in (Paired s v next reads) t rest = absurd (miss (0 ∷ 1 ∷ 2 ∷ 3 ∷ 4 ∷ 6 ∷ 7 ∷ 8 ∷ []) 5 tt t)
-none_in (Ended reads) t rest = refl
-none_in (Released values units) t rest = refl
-none_in (Refused why) t rest = refl
+-- past the patterns `Ok` and `Pair` an answer has none
+given_none : (a : window.Answer) → ((s v next reads : ℕ) → a ≡ Paired s v next reads → ⊥) → (rest : ℕ → List Pair) → and_then (given_of a) rest ≡ []
+given_none Done t rest = refl
+given_none New t rest = refl
+given_none (Replaced v) t rest = refl
+given_none Absent t rest = refl
+given_none (Found n) t rest = refl
+given_none (Paired s v next reads) t rest = absurd (t s v next reads refl)
+given_none (Ended reads) t rest = refl
+given_none (Released values units) t rest = refl
+
+module _ (a : Result window.Answer Refusal) where
+  pub other_none : (g : window.Answer) → a ≡ Ok g → ((s v next reads : ℕ) → g ≡ Paired s v next reads → ⊥) → (rest : ℕ → List Pair) → and_then (answer_of a) rest ≡ []
+  other_none g e t rest = ap (λ (x : Result window.Answer Refusal). and_then (answer_of x) rest) e ∙ given_none g t rest
+
+  pub refused_none : (why : Refusal) → a ≡ Err why → (rest : ℕ → List Pair) → and_then (answer_of a) rest ≡ []
+  refused_none why e rest = ap (λ (x : Result window.Answer Refusal). and_then (answer_of x) rest) e
 
 -- the pair of an answer, then one that tells the cell after it
 abbrev next_in : Answer → List Pair
@@ -178,12 +183,11 @@ module _ (u : State) (ss₀ vs₀ ss vs : List ℕ) (cell count : ℕ) (g : SoFa
     values_long = g.values_long;
   }
 
-  -- a list is full
-  pub full-sequences : length ss ≤ count → Lists u ss₀ vs₀ count ss vs
-  full-sequences l = finish (λ fit ok a b. pairs-out (window_of u) cell (capacity_of (window_of u) - count) (omega (arith, a, l, g.sequences_long)))
-
-  pub full-values : length vs ≤ count → Lists u ss₀ vs₀ count ss vs
-  full-values l = finish (λ fit ok a b. pairs-out (window_of u) cell (capacity_of (window_of u) - count) (omega (arith, b, l, g.values_long)))
+  -- no place is left in one of the lists
+  pub full : (r : ℕ) → r ≡ min (length ss₀) (length vs₀) → r ≡ count → Lists u ss₀ vs₀ r ss vs
+  full r m e =
+      subst (λ (n : ℕ). Lists u ss₀ vs₀ n ss vs) (sym e)
+      (finish (λ fit ok a b. pairs-out (window_of u) cell (capacity_of (window_of u) - count) (omega (arith, a, b))))
 
   -- iter gives no pair
   pub no-pair : (r : Left) → Meets (ask (iter cell)) u [] r → ((rest : ℕ → List Pair) → and_then r.answer rest ≡ []) → Lists u ss₀ vs₀ count ss vs

@@ -1,7 +1,7 @@
 -- Which call each letter makes, and that a call made is what its letter says. Assumes nothing.
-use mathlib.Core.Path.{◌≡◌, refl, sym, ap, subst, ◌∙◌}
-use mathlib.Core.Bool.{Bool, true, false, true≢false}
-use mathlib.Core.Option.{Option, none, some}
+use mathlib.Core.Path.{◌≡◌, refl, sym, subst}
+use mathlib.Core.Bool.{Bool}
+use Rattle.std.specs.Prelude.{Option, None, Some}
 use mathlib.Core.List.{List}
 use Prim.Native.Nat.{ℕ}
 use borrow.Author.Tests.{ne_eqb}
@@ -11,61 +11,43 @@ use Rattle.line_text.specs.Promises.{said_by}
 use Rattle.window.specs.declared.answers.Step.{Step}
 use Rattle.window.specs.Memory.{Memory}
 use Rattle.model.specs.Calls.{Call, insert, exchange, remove, remove_range, clear, clear_bounded, release_retired, set_base, take_front, ask, get, successor_after, first_from, stranger}
-use Rattle.model.specs.Roles.{role_of}
-use Rattle.model.specs.Contract.{State, Meets}
-use Rattle.call_base.specs.Answers.{left_of}
-use Rattle.line_calls.specs.declared.Called.{Called}
-use Rattle.line_calls.specs.declared.Called.TheVariants.{Stepped, Unknown}
-use Rattle.line_calls.specs.Calls.{range_call_of, base_call_of, call_of, seen_by, Made}
-
--- a letter that makes the call c
-pub made : (o : Option Call) (c : Call) (u : State) (l : List ℕ) (s : Step) (m : Memory) (l' : List ℕ) → o ≡ some c
-    → Meets c u (seen_by c l) (left_of s m (seen_by c l')) → ((role_of c).listed ≡ none → l' ≡ l) → Made o u l (Stepped s) m l'
-made o c u l s m l' e t a = subst (λ (x : Option Call). Made x u l (Stepped s) m l') (sym e) (record { meets = t; apart = a })
-
-abbrev has_list : Option Bool → Bool
-has_list none = false
-has_list (some b) = true
-
--- a letter that makes a call with a return list
-pub made-listed : (o : Option Call) (c : Call) (b : Bool) (u : State) (l : List ℕ) (s : Step) (m : Memory) (l' : List ℕ) → o ≡ some c → (role_of c).listed ≡ some b
-    → Meets c u (seen_by c l) (left_of s m (seen_by c l')) → Made o u l (Stepped s) m l'
-made-listed o c b u l s m l' e i t = made o c u l s m l' e t (λ n. absurd (true≢false (ap has_list (sym i ∙ n))))
+use Rattle.model.specs.Contract.{State}
+use Rattle.line_calls.specs.Calls.{range_call_of, base_call_of, call_of, Made}
 
 -- a letter that makes none
-pub none_made : (o : Option Call) (u : State) (l : List ℕ) → o ≡ none → Made o u l Unknown u.memory l
-none_made o u l e = subst (λ (x : Option Call). Made x u l Unknown u.memory l) (sym e) (refl, refl)
+pub none_made : (o : Option Call) (u : State) (l : List ℕ) → o ≡ None → Made o u l None u.memory l
+none_made o u l e = subst (λ (x : Option Call). Made x u l None u.memory l) (sym e) (refl, refl)
 
 -- two letters' calls that are one
-pub made-same : (o o' : Option Call) (u : State) (l : List ℕ) (r : Called) (m : Memory) (l' : List ℕ) → o ≡ o' → Made o' u l r m l' → Made o u l r m l'
+pub made-same : (o o' : Option Call) (u : State) (l : List ℕ) (r : Option Step) (m : Memory) (l' : List ℕ) → o ≡ o' → Made o' u l r m l' → Made o u l r m l'
 made-same o o' u l r m l' e t = subst (λ (x : Option Call). Made x u l r m l') (sym e) t
 
 module _ (f : Fields) (b : Bool) where
-  pub is-d : f.letter ≡ 100 → range_call_of (said_by f) b ≡ some (remove_range f.first f.second b)
+  pub is-d : f.letter ≡ 100 → range_call_of (said_by f) b ≡ Some (remove_range f.first f.second b)
   unfolding range_call_of fields_of_letter among
   is-d e = rw e refl
 
-  pub is_b : f.letter ≡ 98 → range_call_of (said_by f) b ≡ some (clear_bounded f.first b)
+  pub is_b : f.letter ≡ 98 → range_call_of (said_by f) b ≡ Some (clear_bounded f.first b)
   unfolding range_call_of fields_of_letter among
   is_b e = rw e refl
 
-  pub is-v : f.letter ≡ 118 → range_call_of (said_by f) b ≡ some (release_retired f.first b)
+  pub is-v : f.letter ≡ 118 → range_call_of (said_by f) b ≡ Some (release_retired f.first b)
   unfolding range_call_of fields_of_letter among
   is-v e = rw e refl
 
-  pub is_c : f.letter ≡ 99 → range_call_of (said_by f) b ≡ some (clear b)
+  pub is_c : f.letter ≡ 99 → range_call_of (said_by f) b ≡ Some (clear b)
   unfolding range_call_of fields_of_letter among
   is_c e = rw e refl
 
-  pub is_none : (f.letter ≡ 100 → ⊥) → (f.letter ≡ 98 → ⊥) → (f.letter ≡ 118 → ⊥) → (f.letter ≡ 99 → ⊥) → range_call_of (said_by f) b ≡ none
+  pub is_none : (f.letter ≡ 100 → ⊥) → (f.letter ≡ 98 → ⊥) → (f.letter ≡ 118 → ⊥) → (f.letter ≡ 99 → ⊥) → range_call_of (said_by f) b ≡ None
   unfolding range_call_of fields_of_letter among
   is_none d n v c = simp (ne_eqb f.letter 100 d, ne_eqb f.letter 98 n, ne_eqb f.letter 118 v, ne_eqb f.letter 99 c)
 
-  pub is-a : f.letter ≡ 97 → base_call_of (said_by f) b ≡ some (set_base f.first)
+  pub is-a : f.letter ≡ 97 → base_call_of (said_by f) b ≡ Some (set_base f.first)
   unfolding base_call_of fields_of_letter among
   is-a x = rw x refl
 
-  pub is-t : f.letter ≡ 116 → base_call_of (said_by f) b ≡ some take_front
+  pub is-t : f.letter ≡ 116 → base_call_of (said_by f) b ≡ Some take_front
   unfolding base_call_of fields_of_letter among
   is-t x = rw x refl
 
@@ -73,31 +55,31 @@ module _ (f : Fields) (b : Bool) where
   unfolding base_call_of fields_of_letter among
   is-range a t = simp (ne_eqb f.letter 97 a, ne_eqb f.letter 116 t)
 
-  pub is-i : f.letter ≡ 105 → call_of (said_by f) b ≡ some (insert f.first f.second b)
+  pub is-i : f.letter ≡ 105 → call_of (said_by f) b ≡ Some (insert f.first f.second b)
   unfolding call_of fields_of_letter among
   is-i x = rw x refl
 
-  pub is-g : f.letter ≡ 103 → call_of (said_by f) b ≡ some (ask (get f.first))
+  pub is-g : f.letter ≡ 103 → call_of (said_by f) b ≡ Some (ask (get f.first))
   unfolding call_of fields_of_letter among
   is-g x = rw x refl
 
-  pub is-r : f.letter ≡ 114 → call_of (said_by f) b ≡ some (remove f.first)
+  pub is-r : f.letter ≡ 114 → call_of (said_by f) b ≡ Some (remove f.first)
   unfolding call_of fields_of_letter among
   is-r x = rw x refl
 
-  pub is-s : f.letter ≡ 115 → call_of (said_by f) b ≡ some (ask (successor_after f.first))
+  pub is-s : f.letter ≡ 115 → call_of (said_by f) b ≡ Some (ask (successor_after f.first))
   unfolding call_of fields_of_letter among
   is-s x = rw x refl
 
-  pub is_f : f.letter ≡ 102 → call_of (said_by f) b ≡ some (ask (first_from f.first))
+  pub is_f : f.letter ≡ 102 → call_of (said_by f) b ≡ Some (ask (first_from f.first))
   unfolding call_of fields_of_letter among
   is_f x = rw x refl
 
-  pub is-e : f.letter ≡ 101 → call_of (said_by f) b ≡ some (exchange f.first f.second)
+  pub is-e : f.letter ≡ 101 → call_of (said_by f) b ≡ Some (exchange f.first f.second)
   unfolding call_of fields_of_letter among
   is-e x = rw x refl
 
-  pub is-q : f.letter ≡ 113 → call_of (said_by f) b ≡ some (ask (stranger f.first f.second))
+  pub is-q : f.letter ≡ 113 → call_of (said_by f) b ≡ Some (ask (stranger f.first f.second))
   unfolding call_of fields_of_letter among
   is-q x = rw x refl
 

@@ -22,14 +22,7 @@ use line_text::Fields;
 use window::AdaptiveReceiverPacketWindow;
 use window::answers::Step;
 
-// What a call did; Unknown for a letter that has none.
-#[derive(Clone, Copy)]
-pub enum Called {
-    Stepped(Step),
-    Unknown,
-}
-
-// d, b, v and c: the calls that remove a range, clear and release.
+// d, b, v and c: the calls that remove a range, clear and release. None for a letter that has no call.
 pub fn range_call(
     w: AdaptiveReceiverPacketWindow,
     sequences: &mut [u32],
@@ -38,24 +31,18 @@ pub fn range_call(
     blocks: &mut [u64],
     returned: &mut [u32],
     f: Fields,
-) -> Called
+) -> Option<Step>
     ensures { MadeBy (range_call_of (said_by f)) w (lent_mut sequences) (lent_mut values) (lent_mut pages) (lent_mut blocks) (lent_mut returned) result }
 {
     let first = f.first;
     let second = f.second;
     let letter = f.letter;
     match letter {
-        b'd' => Called::Stepped(remove_range(
-            w, sequences, values, pages, blocks, returned, first, second,
-        )),
-        b'b' => Called::Stepped(clear_bounded(
-            w, sequences, values, pages, blocks, returned, first,
-        )),
-        b'v' => Called::Stepped(release_retired(
-            w, sequences, values, pages, blocks, returned, first,
-        )),
-        b'c' => Called::Stepped(clear(w, sequences, values, pages, blocks, returned)),
-        _ => Called::Unknown,
+        b'd' => Some(remove_range(w, sequences, values, pages, blocks, returned, first, second)),
+        b'b' => Some(clear_bounded(w, sequences, values, pages, blocks, returned, first)),
+        b'v' => Some(release_retired(w, sequences, values, pages, blocks, returned, first)),
+        b'c' => Some(clear(w, sequences, values, pages, blocks, returned)),
+        _ => None,
     }
 }
 
@@ -68,14 +55,14 @@ pub fn base_call(
     blocks: &mut [u64],
     returned: &mut [u32],
     f: Fields,
-) -> Called
+) -> Option<Step>
     ensures { MadeBy (base_call_of (said_by f)) w (lent_mut sequences) (lent_mut values) (lent_mut pages) (lent_mut blocks) (lent_mut returned) result }
 {
     let first = f.first;
     let letter = f.letter;
     match letter {
-        b'a' => Called::Stepped(set_base(w, sequences, values, pages, blocks, first)),
-        b't' => Called::Stepped(take_front(w, sequences, values, pages, blocks)),
+        b'a' => Some(set_base(w, sequences, values, pages, blocks, first)),
+        b't' => Some(take_front(w, sequences, values, pages, blocks)),
         _ => range_call(w, sequences, values, pages, blocks, returned, f),
     }
 }
@@ -89,22 +76,20 @@ pub fn call(
     blocks: &mut [u64],
     returned: &mut [u32],
     f: Fields,
-) -> Called
+) -> Option<Step>
     ensures { MadeBy (call_of (said_by f)) w (lent_mut sequences) (lent_mut values) (lent_mut pages) (lent_mut blocks) (lent_mut returned) result }
 {
     let first = f.first;
     let second = f.second;
     let letter = f.letter;
     match letter {
-        b'i' => Called::Stepped(insert(
-            w, sequences, values, pages, blocks, returned, first, second,
-        )),
-        b'g' => Called::Stepped(get(w, sequences, values, pages, blocks, first)),
-        b'r' => Called::Stepped(remove(w, sequences, values, pages, blocks, first)),
-        b's' => Called::Stepped(successor_after(w, sequences, values, pages, blocks, first)),
-        b'f' => Called::Stepped(first_from(w, sequences, values, pages, blocks, first)),
-        b'e' => Called::Stepped(exchange(w, sequences, values, pages, blocks, first, second)),
-        b'q' => Called::Stepped(stranger(w, sequences, values, pages, blocks, first, second)),
+        b'i' => Some(insert(w, sequences, values, pages, blocks, returned, first, second)),
+        b'g' => Some(get(w, sequences, values, pages, blocks, first)),
+        b'r' => Some(remove(w, sequences, values, pages, blocks, first)),
+        b's' => Some(successor_after(w, sequences, values, pages, blocks, first)),
+        b'f' => Some(first_from(w, sequences, values, pages, blocks, first)),
+        b'e' => Some(exchange(w, sequences, values, pages, blocks, first, second)),
+        b'q' => Some(stranger(w, sequences, values, pages, blocks, first, second)),
         _ => base_call(w, sequences, values, pages, blocks, returned, f),
     }
 }

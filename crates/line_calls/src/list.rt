@@ -18,22 +18,19 @@ pub fn live_pairs(
 ) -> usize
     ensures { ListsBy w (lent sequences) (lent values) (lent pages) (lent blocks) (lent_mut listed_sequences) (lent_mut listed_values) result }
 {
+    let places = listed_sequences.len().min(listed_values.len());
     let mut cell: u32 = 0;
-    let mut count: usize = 0;
-    while count < listed_sequences.len() {
-        if listed_values.len() <= count {
-            break;
-        }
+    for count in 0..places {
         let step = iter(w, sequences, values, pages, blocks, cell);
-        let outcome = step.answer;
-        let answer = outcome.answer;
-        let Answer::Pair(sequence, value, next, reads) = answer else {
-            break;
+        let Ok(given) = step.answer.answer else {
+            return count;
+        };
+        let Answer::Pair(sequence, value, next, _) = given else {
+            return count;
         };
         listed_sequences[count] = sequence;
         listed_values[count] = value;
         cell = next;
-        count += 1;
     }
-    count
+    places
 }

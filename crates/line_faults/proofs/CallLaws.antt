@@ -2,7 +2,8 @@
 -- fields are digits and parted by tabs, so that it has no carriage return, no space, and as many tabs as fields. Assumes nothing.
 use mathlib.Core.Path.{◌≡◌, refl, sym, ap, ◌∙◌}
 use mathlib.Core.Bool.{Bool, true, false, cond, ◌&&◌, true≢false}
-use mathlib.Core.Option.{Option, none, some, none-ne-some, some-injective}
+use Rattle.std.specs.Prelude.{Option, None, Some}
+use Rattle.std.proofs.lemmas.Option.{none-some, same_Some}
 use mathlib.Core.List.{List, [], ◌∷◌}
 use Prim.Native.Nat.{ℕ, suc, ◌+◌, ◌≤◌, ◌<◌}
 use native.Mathlib.Omega.{arith}
@@ -18,12 +19,12 @@ use Rattle.line_faults.specs.Faults.{occurrences, letter_count_of, fault_of_pars
 use Rattle.line_faults.proofs.FaultLaws.{hit, miss, neither}
 
 -- a field has digits alone
-digits-if : (s t u : Bool) (m n : ℕ) → cond (s && (t && u)) (some m) none ≡ some n → t ≡ true
+digits-if : (s t u : Bool) (m n : ℕ) → cond (s && (t && u)) (Some m) None ≡ Some n → t ≡ true
 digits-if s true u m n e = refl
-digits-if true false u m n e = absurd (none-ne-some n e)
-digits-if false false u m n e = absurd (none-ne-some n e)
+digits-if true false u m n e = absurd (none-some n e)
+digits-if false false u m n e = absurd (none-some n e)
 
-field-digits : (p : List ℕ) (n : ℕ) → field_of p ≡ some n → all_digits p ≡ true
+field-digits : (p : List ℕ) (n : ℕ) → field_of p ≡ Some n → all_digits p ≡ true
 unfolding field_of
 field-digits p n e = digits-if (is_plain p) (all_digits p) (leb (number p) 4294967295) (number p) n e
 
@@ -79,31 +80,31 @@ abbrev Numbered : ℕ → List (List ℕ) → List ℕ → Type 0
 Numbered c ps ns = (length ns ≡ length ps) × (total c ps ≡ 0)
 
 one_more : (c : ℕ) → c < 48 → (p : List ℕ) (ps : List (List ℕ)) (x : Option ℕ) (y : Option (List ℕ)) (ns : List ℕ) → field_of p ≡ x
-    → ((ms : List ℕ) → y ≡ some ms → Numbered c ps ms) → both x y ≡ some ns → Numbered c (p ∷ ps) ns
+    → ((ms : List ℕ) → y ≡ Some ms → Numbered c ps ms) → both x y ≡ Some ns → Numbered c (p ∷ ps) ns
 unfolding total
-one_more c h p ps none y ns f g e = absurd (none-ne-some ns e)
-one_more c h p ps (some n) none ns f g e = absurd (none-ne-some ns e)
-one_more c h p ps (some n) (some ms) ns f g e =
+one_more c h p ps None y ns f g e = absurd (none-some ns e)
+one_more c h p ps (Some n) None ns f g e = absurd (none-some ns e)
+one_more c h p ps (Some n) (Some ms) ns f g e =
     let t = g ms refl in
-    (sym (ap length (some-injective (n ∷ ms) ns e)) ∙ ap suc t.0, omega (arith, t.1, no_digit c h p (field-digits p n f)))
+    (sym (ap length (same_Some (n ∷ ms) ns e)) ∙ ap suc t.0, omega (arith, t.1, no_digit c h p (field-digits p n f)))
 
-numbered : (c : ℕ) → c < 48 → (ps : List (List ℕ)) (ns : List ℕ) → numbers ps ≡ some ns → Numbered c ps ns
+numbered : (c : ℕ) → c < 48 → (ps : List (List ℕ)) (ns : List ℕ) → numbers ps ≡ Some ns → Numbered c ps ns
 unfolding numbers total
-numbered c h [] ns e = (sym (ap length (some-injective [] ns e)), refl)
+numbered c h [] ns e = (sym (ap length (same_Some [] ns e)), refl)
 numbered c h (p ∷ ps) ns e = one_more c h p ps (field_of p) (numbers ps) ns refl (numbered c h ps) e
 
 -- a call: what its bytes have
 pub record Clean (bs : List ℕ) (k : ℕ) : Type 0 where
   pub no_return : occurrences 13 bs ≤ 0
   pub no-space : occurrences 32 bs ≤ 0
-  pub letter : letter_count_of bs ≡ some k
+  pub letter : letter_count_of bs ≡ Some k
   pub tabs : occurrences 9 bs ≡ k
 
 -- a letter is no such byte
-apart : (c x k : ℕ) → fields_of_letter c ≡ none → fields_of_letter x ≡ some k → x ≡ c → ⊥
-apart c x k n e q = none-ne-some k (sym n ∙ ap fields_of_letter (sym q) ∙ e)
+apart : (c x k : ℕ) → fields_of_letter c ≡ None → fields_of_letter x ≡ Some k → x ≡ c → ⊥
+apart c x k n e q = none-some k (sym n ∙ ap fields_of_letter (sym q) ∙ e)
 
-module _ (x k : ℕ) (e : fields_of_letter x ≡ some k) where
+module _ (x k : ℕ) (e : fields_of_letter x ≡ Some k) where
   not-tab : x ≡ 9 → ⊥
   unfolding fields_of_letter among
   not-tab = apart 9 x k refl e
@@ -116,10 +117,10 @@ module _ (x k : ℕ) (e : fields_of_letter x ≡ some k) where
   unfolding fields_of_letter among
   not-space = apart 32 x k refl e
 
-  alone : (ns : List ℕ) → some [] ≡ some ns → length ns ≡ k → Clean (x ∷ []) k
+  alone : (ns : List ℕ) → Some [] ≡ Some ns → length ns ≡ k → Clean (x ∷ []) k
   unfolding letter_count_of occurrences
   alone ns f l =
-      let z : 0 ≡ length ns = ap length (some-injective [] ns f) in
+      let z : 0 ≡ length ns = ap length (same_Some [] ns f) in
       record {
         no_return = omega (arith, miss 13 x [] not-return);
         no-space = omega (arith, miss 32 x [] not-space);
@@ -127,7 +128,7 @@ module _ (x k : ℕ) (e : fields_of_letter x ≡ some k) where
         tabs = omega (arith, miss 9 x [] not-tab);
       }
 
-  before-tab : (b : ℕ) (bs ns : List ℕ) → b ≡ 9 → numbers (parts 9 bs) ≡ some ns → length ns ≡ k → Clean (x ∷ b ∷ bs) k
+  before-tab : (b : ℕ) (bs ns : List ℕ) → b ≡ 9 → numbers (parts 9 bs) ≡ Some ns → length ns ≡ k → Clean (x ∷ b ∷ bs) k
   unfolding letter_count_of
   before-tab b bs ns q f l =
       let r = numbered 13 (omega arith) (parts 9 bs) ns f in
@@ -139,13 +140,13 @@ module _ (x k : ℕ) (e : fields_of_letter x ≡ some k) where
         tabs = omega (arith, r.0, parts-tabs bs, miss 9 x (b ∷ bs) not-tab, hit 9 b bs q);
       }
 
-  clean : (bs ns : List ℕ) → fields_after bs ≡ some ns → length ns ≡ k → Clean (x ∷ bs) k
+  clean : (bs ns : List ℕ) → fields_after bs ≡ Some ns → length ns ≡ k → Clean (x ∷ bs) k
   unfolding fields_after
   clean [] ns f l = alone ns f l
   clean (b ∷ bs) ns f l =
       elim (ℕ_discrete b 9) [
         | yes q ↦ before-tab b bs ns q (sym (at-tab b bs q) ∙ f) l
-        | no q ↦ absurd (none-ne-some ns (sym (at_other b bs q) ∙ f))
+        | no q ↦ absurd (none-some ns (sym (at_other b bs q) ∙ f))
       ]
 
 -- such bytes have the fault of a call
@@ -153,25 +154,25 @@ clean-fault : (bs : List ℕ) (k : ℕ) → Clean bs k → fault_of_text bs ≡ 
 clean-fault bs k c = sym (neither bs c.no_return c.no-space) ∙ rw (c.letter, eq-eqb (occurrences 9 bs) k c.tabs) refl
 
 -- the letter, its count and the numbers of a call
-if-counted : (x k : ℕ) (bs ns : List ℕ) (t : Bool) (l : Line) → fields_of_letter x ≡ some k → fields_after bs ≡ some ns → eqb (length ns) k ≡ t
-    → cond t (some (line x ns)) none ≡ some l → Clean (x ∷ bs) k
+if-counted : (x k : ℕ) (bs ns : List ℕ) (t : Bool) (l : Line) → fields_of_letter x ≡ Some k → fields_after bs ≡ Some ns → eqb (length ns) k ≡ t
+    → cond t (Some (line x ns)) None ≡ Some l → Clean (x ∷ bs) k
 if-counted x k bs ns true l e f q h = clean x k e bs ns f (eqb-true (length ns) k q)
-if-counted x k bs ns false l e f q h = absurd (none-ne-some l h)
+if-counted x k bs ns false l e f q h = absurd (none-some l h)
 
-of-counted : (x : ℕ) (bs : List ℕ) (o : Option ℕ) (y : Option (List ℕ)) (l : Line) → fields_of_letter x ≡ o → fields_after bs ≡ y → counted x o y ≡ some l
+of-counted : (x : ℕ) (bs : List ℕ) (o : Option ℕ) (y : Option (List ℕ)) (l : Line) → fields_of_letter x ≡ o → fields_after bs ≡ y → counted x o y ≡ Some l
     → fault_of_text (x ∷ bs) ≡ fault_of_parsed (line_of (x ∷ bs))
-of-counted x bs none y l e f h = absurd (none-ne-some l h)
-of-counted x bs (some k) none l e f h = absurd (none-ne-some l h)
-of-counted x bs (some k) (some ns) l e f h = clean-fault (x ∷ bs) k (if-counted x k bs ns (eqb (length ns) k) l e f refl h)
+of-counted x bs None y l e f h = absurd (none-some l h)
+of-counted x bs (Some k) None l e f h = absurd (none-some l h)
+of-counted x bs (Some k) (Some ns) l e f h = clean-fault (x ∷ bs) k (if-counted x k bs ns (eqb (length ns) k) l e f refl h)
 
-of-call : (bs : List ℕ) (l : Line) → line_of bs ≡ some l → fault_of_text bs ≡ fault_of_parsed (line_of bs)
+of-call : (bs : List ℕ) (l : Line) → line_of bs ≡ Some l → fault_of_text bs ≡ fault_of_parsed (line_of bs)
 unfolding rest_of
-of-call [] l e = absurd (none-ne-some l (no_line [] refl ∙ e))
+of-call [] l e = absurd (none-some l (no_line [] refl ∙ e))
 of-call (x ∷ bs) l e =
     of-counted x bs (fields_of_letter x) (fields_after bs) l refl refl
     (ap (counted x (fields_of_letter x)) (sym (prefixed-none (fields_after bs))) ∙ begins (x ∷ bs) (omega arith) ∙ e)
 
 -- of a call nothing else is told
-pub told-of-call : (bs : List ℕ) (n : ℕ) (l : Line) → n ≤ length bs → line_of (take n bs) ≡ some l → fault_of_line bs n ≡ fault_of_parsed (some l)
+pub told-of-call : (bs : List ℕ) (n : ℕ) (l : Line) → n ≤ length bs → line_of (take n bs) ≡ Some l → fault_of_line bs n ≡ fault_of_parsed (Some l)
 unfolding fault_of_line
 told-of-call bs n l h e = rw (le-ltb (length bs) n h) (of-call (take n bs) l e ∙ ap fault_of_parsed e)

@@ -1,19 +1,15 @@
--- How often a byte stands in a line, passed byte by byte, and which fault each test of the code shows. Assumes nothing.
+-- How often a byte stands in a line, and which fault each test of the code shows. Assumes nothing.
 use mathlib.Core.Path.{◌≡◌, refl, sym, ap, ◌∙◌}
-use mathlib.Core.Bool.{Bool, true, false, cond}
-use mathlib.Core.Option.{Option, none, some}
+use mathlib.Core.Bool.{cond}
+use Rattle.std.specs.Prelude.{Option, None, Some}
 use mathlib.Core.List.{List, [], ◌∷◌}
-use mathlib.Core.Logic.{◌⊎◌, ⊎_elim}
 use Prim.Native.Nat.{ℕ, suc, ◌+◌, ◌≤◌, ◌<◌}
-use native.Mathlib.Numerals.{add-one}
 use native.Mathlib.Omega.{arith}
-use lib.Dec.{eqb}
-use lib.ListN.{length, get_or, drop}
-use lib.Seq.{drop-cons, drop-length}
+use lib.ListN.{length, get_or}
 use borrow.Author.Tests.{eq-eqb, ne_eqb, lt-ltb, le-ltb}
+use Rattle.std.specs.Prelude.{◌==◌, count_by}
+use Rattle.std.proofs.lemmas.List.Recursion.{is_count_by}
 use Rattle.line_text.specs.Lines.{fields_of_letter, line_of}
-use Rattle.line_text.specs.Promises.{count_or4}
-use Rattle.line_text.proofs.LineLaws.{unknown}
 use Rattle.line_faults.specs.declared.Fault.TheVariants.{CarriageReturn, Space, Letter, FieldCount}
 use Rattle.line_faults.specs.Faults.{occurrences, letter_count_of, fault_of_parsed, fault_of_fields, fault_of_text}
 
@@ -26,30 +22,15 @@ pub miss : (b c : ℕ) (cs : List ℕ) → (c ≡ b → ⊥) → occurrences b (
 unfolding occurrences
 miss b c cs e = rw (ne_eqb c b e) refl
 
-module _ (b i : ℕ) (bs : List ℕ) (h : i < length bs) where
-  passed-hit : get_or bs i 0 ≡ b → occurrences b (drop i bs) ≡ suc (occurrences b (drop (i + 1) bs))
-  passed-hit e = rw (drop-cons bs i 0 h, add-one i) (hit _ _ _ e)
-
-  passed-miss : (get_or bs i 0 ≡ b → ⊥) → occurrences b (drop i bs) ≡ occurrences b (drop (i + 1) bs)
-  passed-miss e = rw (drop-cons bs i 0 h, add-one i) (miss _ _ _ e)
-
--- of n so far, m with the next byte: those counted and those left are all
-abbrev pub SoFar : ℕ → List ℕ → ℕ → ℕ → Type 0
-SoFar b bs n i = (i ≤ length bs) × (n ≤ i) × (n + occurrences b (drop i bs) ≡ occurrences b bs)
-
-pub turn : (b : ℕ) (bs : List ℕ) (n m i : ℕ) → i < length bs → SoFar b bs n i
-    → ((get_or bs i 0 ≡ b) × (m ≡ n + 1)) ⊎ ((get_or bs i 0 ≡ b → ⊥) × (m ≡ n)) → SoFar b bs m (i + 1)
-turn b bs n m i h s =
-    ⊎_elim
-    (λ t. let e : m ≡ n + 1 = t.1 in (omega arith, omega (arith, s.1), omega (arith, s.2, passed-hit b i bs h t.0)))
-    (λ t. let e : m ≡ n = t.1 in (omega arith, omega (arith, s.1), omega (arith, s.2, passed-miss b i bs h t.0)))
-
-pub none_left : (b i : ℕ) (bs : List ℕ) → i ≡ length bs → occurrences b (drop i bs) ≡ 0
+-- in the library's words
+pub counted : (b : ℕ) (bs : List ℕ) → occurrences b bs ≡ count_by (λ c. c == b) bs
 unfolding occurrences
-none_left b i bs e = rw (e, drop-length bs) refl
+counted b bs =
+    is_count_by (occurrences b) (λ c. c == b) refl
+    (λ x xs. let e : suc (occurrences b xs) ≡ 1 + occurrences b xs = omega arith in ap (λ (n : ℕ). cond (x == b) n (occurrences b xs)) e) bs
 
 -- the letter: none, alone, before a tab, or not
-pub no-letter : (bs : List ℕ) → length bs ≡ 0 → letter_count_of bs ≡ none
+pub no-letter : (bs : List ℕ) → length bs ≡ 0 → letter_count_of bs ≡ None
 unfolding letter_count_of
 no-letter [] e = refl
 no-letter (b ∷ bs) e = absurd (omega arith)
@@ -60,7 +41,7 @@ letter-alone [] e = absurd (omega arith)
 letter-alone (b ∷ []) e = refl
 letter-alone (b ∷ c ∷ bs) e = absurd (omega arith)
 
-pub letter-more : (bs : List ℕ) → (length bs ≡ 0 → ⊥) → (length bs ≡ 1 → ⊥) → (get_or bs 1 0 ≡ 9 → ⊥) → letter_count_of bs ≡ none
+pub letter-more : (bs : List ℕ) → (length bs ≡ 0 → ⊥) → (length bs ≡ 1 → ⊥) → (get_or bs 1 0 ≡ 9 → ⊥) → letter_count_of bs ≡ None
 unfolding letter_count_of
 letter-more [] z o e = absurd (z refl)
 letter-more (b ∷ []) z o e = absurd (o refl)
@@ -85,31 +66,21 @@ pub neither : (bs : List ℕ) → occurrences 13 bs ≤ 0 → occurrences 32 bs 
 unfolding fault_of_text
 neither bs r s = rw (le-ltb 0 (occurrences 13 bs) r, le-ltb 0 (occurrences 32 bs) s) refl
 
--- a letter takes 3 fields at most
-if-known : (t : Bool) (b : ℕ) → 3 < count_or4 (cond t (fields_of_letter b) none) → cond t (fields_of_letter b) none ≡ none
-if-known true b l = unknown b l
-if-known false b l = refl
+other-count : (k : ℕ) (o : Option ℕ) (bs : List ℕ) → o ≡ Some k → (occurrences 9 bs ≡ k → ⊥) → FieldCount ≡ fault_of_fields o bs
+other-count k o bs s e = rw (s, ne_eqb (occurrences 9 bs) k e) refl
 
-unknown-letter : (bs : List ℕ) → 3 < count_or4 (letter_count_of bs) → letter_count_of bs ≡ none
-unfolding letter_count_of
-unknown-letter [] l = refl
-unknown-letter (b ∷ []) l = unknown b l
-unknown-letter (b ∷ c ∷ bs) l = if-known (eqb c 9) b l
-
-other-count : (o : Option ℕ) (bs : List ℕ) → count_or4 o ≤ 3 → (occurrences 9 bs ≡ count_or4 o → ⊥) → FieldCount ≡ fault_of_fields o bs
-other-count none bs l e = absurd (omega arith)
-other-count (some k) bs l e = rw (ne_eqb (occurrences 9 bs) k e) refl
-
-own-count : (o : Option ℕ) (bs : List ℕ) → count_or4 o ≤ 3 → occurrences 9 bs ≡ count_or4 o → fault_of_parsed (line_of bs) ≡ fault_of_fields o bs
-own-count none bs l e = absurd (omega arith)
-own-count (some k) bs l e = rw (eq-eqb (occurrences 9 bs) k e) refl
+own-count : (k : ℕ) (o : Option ℕ) (bs : List ℕ) → o ≡ Some k → occurrences 9 bs ≡ k → fault_of_parsed (line_of bs) ≡ fault_of_fields o bs
+own-count k o bs s e = rw (s, eq-eqb (occurrences 9 bs) k e) refl
 
 module _ (bs : List ℕ) (r : occurrences 13 bs ≤ 0) (s : occurrences 32 bs ≤ 0) where
-  pub another-letter : 3 < count_or4 (letter_count_of bs) → Letter ≡ fault_of_text bs
-  another-letter l = ap (λ (o : Option ℕ). fault_of_fields o bs) (sym (unknown-letter bs l)) ∙ neither bs r s
+  pub another-letter : None ≡ letter_count_of bs → Letter ≡ fault_of_text bs
+  another-letter l = ap (λ (o : Option ℕ). fault_of_fields o bs) l ∙ neither bs r s
 
-  pub field-count : count_or4 (letter_count_of bs) ≤ 3 → (occurrences 9 bs ≡ count_or4 (letter_count_of bs) → ⊥) → FieldCount ≡ fault_of_text bs
-  field-count l e = other-count (letter_count_of bs) bs l e ∙ neither bs r s
+  pub field-count : (k : ℕ) → Some k ≡ letter_count_of bs → (occurrences 9 bs ≡ k → ⊥) → FieldCount ≡ fault_of_text bs
+  field-count k l e = other-count k (letter_count_of bs) bs (sym l) e ∙ neither bs r s
 
-  pub of-call : count_or4 (letter_count_of bs) ≤ 3 → occurrences 9 bs ≡ count_or4 (letter_count_of bs) → fault_of_parsed (line_of bs) ≡ fault_of_text bs
-  of-call l e = own-count (letter_count_of bs) bs l e ∙ neither bs r s
+  pub of-call : (k : ℕ) → Some k ≡ letter_count_of bs → occurrences 9 bs ≡ k → fault_of_parsed (line_of bs) ≡ fault_of_text bs
+  of-call k l e = own-count k (letter_count_of bs) bs (sym l) e ∙ neither bs r s
+
+-- what the tactics know of a line's letter and faults
+pub ruleset telling = (no-letter, letter-alone, letter-more, letter-tab, carriage-return, space, another-letter, field-count, of-call)

@@ -1,8 +1,7 @@
 -- What is wrong with a line that prints `?`. Document 01, 'The line program': "A line with another letter, a wrong count of fields, or a
 -- field not so written or above 4294967295, a larger window_size, or a call other than n before an accepted n prints `?` alone". Of
 -- several faults the first in the order below is told. Definitions only. Assumes nothing.
-use Rattle.std.specs.Prelude.{Bool, cond, ◌&&◌, List, [], ◌∷◌, ℕ, suc, eqb, ltb, length, take, get_or}
-use Rattle.std.proofs.Math.Option.{Option, none, some}
+use Rattle.std.specs.Prelude.{Bool, cond, ◌&&◌, Option, None, Some, List, [], ◌∷◌, ℕ, suc, eqb, ltb, length, take, get_or}
 use Rattle.line_text.specs.Lines.{Line, fields_of_letter, line_of}
 use Rattle.line_faults.specs.declared.Fault.{Fault}
 use Rattle.line_faults.specs.declared.Fault.TheVariants.{Long, CarriageReturn, Space, Letter, FieldCount, Field, WindowSize, NoWindow}
@@ -18,9 +17,9 @@ has b bs = ltb 0 (occurrences b bs)
 -- how many fields the line's letter takes, which stands alone or before a tab; none for another letter, for none, and for more than one
 -- byte in its place
 unfoldable pub letter_count_of : List ℕ → Option ℕ
-letter_count_of [] = none
+letter_count_of [] = None
 letter_count_of (b ∷ []) = fields_of_letter b
-letter_count_of (b ∷ c ∷ bs) = cond (eqb c 9) (fields_of_letter b) none
+letter_count_of (b ∷ c ∷ bs) = cond (eqb c 9) (fields_of_letter b) None
 
 -- "a larger window_size": n, and above 4096
 abbrev pub is_larger : Line → Bool
@@ -29,16 +28,16 @@ is_larger l = eqb l.letter 110 && ltb 4096 (get_or l.fields 0 0)
 -- a line whose letter has its count of fields
 abbrev pub fault_of_parsed : Option Line → Fault
 -- "a field not so written or above 4294967295"
-fault_of_parsed none = Field
+fault_of_parsed None = Field
 -- "a larger window_size"; "or a call other than n before an accepted n": nothing else is left
-fault_of_parsed (some l) = cond (is_larger l) WindowSize NoWindow
+fault_of_parsed (Some l) = cond (is_larger l) WindowSize NoWindow
 
 -- a line whose letter takes so many fields
 abbrev pub fault_of_fields : Option ℕ → List ℕ → Fault
 -- "A line with another letter"
-fault_of_fields none bs = Letter
+fault_of_fields None bs = Letter
 -- "a wrong count of fields": each stands after a tab
-fault_of_fields (some k) bs = cond (eqb (occurrences 9 bs) k) (fault_of_parsed (line_of bs)) FieldCount
+fault_of_fields (Some k) bs = cond (eqb (occurrences 9 bs) k) (fault_of_parsed (line_of bs)) FieldCount
 
 -- "Lines end in a line feed", and "fields parted by tabs": no carriage return before it, and no space
 unfoldable pub fault_of_text : List ℕ → Fault

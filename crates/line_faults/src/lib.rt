@@ -2,14 +2,14 @@
 #![tactic(auto)]
 
 ghost use Rattle.std.specs.Prelude.{◌≡◌};
-ghost use Rattle.line_text.specs.Promises.{count_or4};
 ghost use Rattle.line_text.specs.Lines.{line_of};
 ghost use Rattle.line_faults.specs.Faults.{occurrences, letter_count_of, fault_of_parsed, fault_of_text, fault_of_line};
 
-use line_text::{Parsed, field_count, parse};
+use line_text::{field_count, parse};
+use std::fmt;
 
 // The first that applies, in this order.
-#[derive(Clone, Copy)]
+#[derive(Clone, Copy, PartialEq, Eq, Debug)]
 pub enum Fault {
     // more bytes than the line's places, more than any call has
     Long,
@@ -29,33 +29,53 @@ pub enum Fault {
     NoWindow,
 }
 
+// What is told of a line: how the message goes on after "is".
+impl fmt::Display for Fault {
+    ghost use Rattle.std.specs.Prelude.{Some};
+    ghost use Rattle.line_faults.specs.Messages.{fault_text};
+
+    ghost output = { λ fault. Some (fault_text fault) };
+
+    fn fmt<W: fmt::Write>(&self, f: &mut fmt::Formatter<W>) -> fmt::Result {
+        match self {
+            Fault::Long => f.write_str("no call: longer than any call"),
+            Fault::CarriageReturn => f.write_str(
+                "no call: a carriage return in it, lines end in a line feed alone",
+            ),
+            Fault::Space => f.write_str("no call: a space in it, fields are parted by one tab"),
+            Fault::Letter => f.write_str("no call: its first part is no letter of a call"),
+            Fault::FieldCount => f.write_str(
+                "no call: another number of fields than its letter takes",
+            ),
+            Fault::Field => f.write_str(
+                "no call: a field is no decimal number up to 4294967295 without leading zeros",
+            ),
+            Fault::WindowSize => f.write_str("no call: a window_size above 4096"),
+            Fault::NoWindow => f.write_str("no call yet: an n must be taken first"),
+        }
+    }
+}
+
 // How often a byte stands in the line.
 fn count_byte(line: &[u8], byte: u8) -> usize
     ensures { result ≡ occurrences byte line.now }
 {
-    let mut count: usize = 0;
-    let mut i: usize = 0;
-    while i < line.len() {
-        if line[i] == byte {
-            count += 1;
-        }
-        i += 1;
-    }
-    count
+    line.iter().filter(|b| **b == byte).count()
 }
 
-// How many fields the line's letter takes; 4 if it has none.
-fn letter_count(line: &[u8]) -> usize
-    ensures { result ≡ count_or4 (letter_count_of line.now) }
+// How many fields the line's letter takes; none if it has no letter.
+#[tactic(auto, using(crate::proofs::FaultLaws::telling))]
+fn letter_count(line: &[u8]) -> Option<usize>
+    ensures { result ≡ letter_count_of line.now }
 {
     if line.len() == 0 {
-        return 4;
+        return None;
     }
     if line.len() == 1 {
         return field_count(line[0]);
     }
     if line[1] != b'\t' {
-        return 4;
+        return None;
     }
     field_count(line[0])
 }
@@ -65,8 +85,7 @@ fn letter_count(line: &[u8]) -> usize
 fn fault_of_call(line: &[u8]) -> Fault
     ensures { result ≡ fault_of_parsed (line_of line.now) }
 {
-    let parsed = parse(line);
-    let Parsed::Call(f) = parsed else {
+    let Some(f) = parse(line) else {
         return Fault::Field;
     };
     if f.letter != b'n' {
@@ -79,6 +98,7 @@ fn fault_of_call(line: &[u8]) -> Fault
 }
 
 // Of a line's bytes.
+#[tactic(auto, using(crate::proofs::FaultLaws::telling))]
 fn fault_of_bytes(line: &[u8]) -> Fault
     ensures { result ≡ fault_of_text line.now }
 {
@@ -88,10 +108,9 @@ fn fault_of_bytes(line: &[u8]) -> Fault
     if 0 < count_byte(line, b' ') {
         return Fault::Space;
     }
-    let count = letter_count(line);
-    if 3 < count {
+    let Some(count) = letter_count(line) else {
         return Fault::Letter;
-    }
+    };
     if count_byte(line, b'\t') != count {
         return Fault::FieldCount;
     }
@@ -99,11 +118,12 @@ fn fault_of_bytes(line: &[u8]) -> Fault
 }
 
 // What is wrong with the first `length` bytes of `line`, which are no call, or one before a window was made.
+#[tactic(auto, unfolding(crate::specs::Faults::fault_of_line))]
 pub fn fault_of(line: &[u8], length: usize) -> Fault
     ensures { result ≡ fault_of_line line.now length }
 {
     if line.len() < length {
         return Fault::Long;
     }
-    fault_of_bytes(&line[0..length])
+    fault_of_bytes(&line[..length])
 }

@@ -1,19 +1,12 @@
 -- The bytes of an answer, of the counts and of a head: how they are put, and how many they are. Assumes nothing.
-use Rattle.std.proofs.Common.{◌≡◌, ℕ, ◌+◌, ◌*◌, ◌≤◌, List, [], ◌∷◌, ◌++◌, length, take, sym, ap, ◌∙◌, subst, append-nil, arith, length-append, length-take-le}
+use Rattle.std.proofs.Common.{◌≡◌, ℕ, ◌+◌, ◌*◌, ◌≤◌, List, [], ◌∷◌, ◌++◌, length, take, ap, subst, append-nil, arith, length-append, length-take-le}
 use Rattle.line_text.specs.Output.{digits, tabbed, paired}
 use Rattle.line_text.specs.PrintContracts.{Puts}
 use Rattle.line_text.proofs.PrintLaws.{tabbed-none, tabbed-cons, tabbed-few, paired-few, at-most-20, marked-few}
 use Rattle.window.specs.declared.AdaptiveReceiverPacketWindow.{AdaptiveReceiverPacketWindow}
-use Rattle.window.specs.declared.answers.Answer as code
 use Rattle.model.specs.Steps.{demotions_of}
 use Rattle.model.specs.Calls.{Answer, done, new, replaced, absent, found, pair, ended, released, refused}
-use Rattle.call_base.specs.Answers.{answer_of}
 use Rattle.line_output.specs.Output.{answer_bytes, count_bytes, head_bytes}
-
--- the bytes of one case of an answer are the answer's
-pub put-told : (at r : ℕ) (bytes out out' : List ℕ) (a b : code.Answer) → Puts at bytes out r out' → a ≡ b → bytes ≡ answer_bytes (answer_of b)
-    → Puts at (answer_bytes (answer_of a)) out r out'
-put-told at r bytes out out' a b p e f = subst (λ (l : List ℕ). Puts at l out r out') (f ∙ sym (ap (λ (x : code.Answer). answer_bytes (answer_of x)) e)) p
 
 answer-few : (a : Answer) → length (answer_bytes a) ≤ 41
 unfolding answer_bytes

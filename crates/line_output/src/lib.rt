@@ -3,7 +3,7 @@
 
 ghost use Rattle.std.specs.Prelude.{◌≡◌, ◌+◌, ◌≤◌, length, take, nat_le};
 ghost use Rattle.line_text.specs.PrintContracts.{Puts};
-ghost use Rattle.call_base.specs.Answers.{answer_of};
+ghost use Rattle.call_base.specs.Answers.{answer_of, given_of};
 ghost use Rattle.model.specs.Calls.{released};
 ghost use Rattle.model.specs.Steps.{demotions_of};
 ghost use Rattle.line_output.specs.Output.{answer_bytes, count_bytes, head_bytes, line_bytes, list_bytes, unknown_bytes};
@@ -12,23 +12,35 @@ ghost use Rattle.line_output.specs.Promises.{room_for, pairs_room, PutsIf};
 use line_text::print::{put_byte, put_marked, put_number, put_pairs, put_values};
 use window::AdaptiveReceiverPacketWindow;
 use window::answers::Answer;
-use window::refusals::refusal_number;
+use window::refusals::Refusal;
 
-// An answer: at most 41 bytes.
-fn put_answer(out: &mut [u8], at: usize, answer: Answer) -> usize
+// An answer or a refusal: at most 41 bytes.
+#[tactic(auto, unfolding(crate::specs::Output::answer_bytes))]
+fn put_answer(out: &mut [u8], at: usize, answer: Result<Answer, Refusal>) -> usize
     requires { at + 41 ≤ length out.old }
     ensures { Puts at (answer_bytes (answer_of answer)) out.old result out.new }
 {
     match answer {
+        Ok(given) => put_given(out, at, given),
+        Err(why) => put_marked(out, at, b'!', u64::from(u32::from(why))),
+    }
+}
+
+// An answer of a call that is not refused.
+#[tactic(auto, unfolding(crate::specs::Output::answer_bytes))]
+fn put_given(out: &mut [u8], at: usize, answer: Answer) -> usize
+    requires { at + 41 ≤ length out.old }
+    ensures { Puts at (answer_bytes (given_of answer)) out.old result out.new }
+{
+    match answer {
         Answer::Done => put_byte(out, at, b'.'),
         Answer::New => put_byte(out, at, b'+'),
-        Answer::Replaced(value) => put_marked(out, at, b'=', value as u64),
+        Answer::Replaced(value) => put_marked(out, at, b'=', u64::from(value)),
         Answer::Absent => put_byte(out, at, b'-'),
-        Answer::Found(number) => put_number(out, at, number as u64),
-        Answer::Pair(sequence, value, next, reads) => put_number(out, at, sequence as u64),
-        Answer::Ended(reads) => put_byte(out, at, b'.'),
+        Answer::Found(number) => put_number(out, at, u64::from(number)),
+        Answer::Pair(sequence, _, _, _) => put_number(out, at, u64::from(sequence)),
+        Answer::Ended(_) => put_byte(out, at, b'.'),
         Answer::Released(values, units) => put_released(out, at, values, units),
-        Answer::Refused(why) => put_marked(out, at, b'!', refusal_number(why) as u64),
     }
 }
 
@@ -37,15 +49,15 @@ fn put_released(out: &mut [u8], at: usize, values: u32, units: u32) -> usize
     requires { at + 41 ≤ length out.old }
     ensures { Puts at (answer_bytes (released values units)) out.old result out.new }
 {
-    let colon = put_number(out, at, values as u64);
-    put_marked(out, colon, b':', units as u64)
+    let colon = put_number(out, at, u64::from(values));
+    put_marked(out, colon, b':', u64::from(units))
 }
 
 // The demotions of both causes, modulo 2^64.
 fn demotions(w: AdaptiveReceiverPacketWindow) -> u64
     ensures { result ≡ demotions_of w }
 {
-    std::num::wrapping_add_u64(w.single_demotions, w.range_demotions)
+    w.single_demotions.wrapping_add(w.range_demotions)
 }
 
 // The counts of the header: at most 84 bytes.
@@ -53,8 +65,8 @@ fn put_counts(out: &mut [u8], at: usize, w: AdaptiveReceiverPacketWindow) -> usi
     requires { at + 84 ≤ length out.old }
     ensures { Puts at (count_bytes w) out.old result out.new }
 {
-    let first = put_marked(out, at, b'\t', w.len as u64);
-    let second = put_marked(out, first, b'\t', w.retired_held as u64);
+    let first = put_marked(out, at, b'\t', u64::from(w.len));
+    let second = put_marked(out, first, b'\t', u64::from(w.retired_held));
     let third = put_marked(out, second, b'\t', w.promotions);
     put_marked(out, third, b'\t', demotions(w))
 }
@@ -64,7 +76,7 @@ fn put_head(
     out: &mut [u8],
     at: usize,
     letter: u8,
-    answer: Answer,
+    answer: Result<Answer, Refusal>,
     w: AdaptiveReceiverPacketWindow,
 ) -> usize
     requires { at + 127 ≤ length out.old }
@@ -80,24 +92,16 @@ fn put_head(
 fn has_room(length: usize, at: usize, need: usize) -> bool
     ensures { result ≡ nat_le (at + need) length }
 {
-    if length < at {
-        return false;
-    }
-    need <= length - at
+    at <= length && need <= length - at
 }
 
 // Whether a line with `count` items of a list of `list` has a place: at most 128 bytes, and `each` an item.
+#[tactic(auto, unfolding(crate::specs::Promises::room_for))]
 fn has_line_room(length: usize, at: usize, list: usize, count: usize, each: usize) -> bool
     requires { each ≤ 64 }
     ensures { result ≡ room_for length at list count each }
 {
-    if 4096 < count {
-        return false;
-    }
-    if list < count {
-        return false;
-    }
-    has_room(length, at, 128 + each * count)
+    count <= 4096 && count <= list && has_room(length, at, 128 + each * count)
 }
 
 // The line of a call: the letter, the answer, the counts, and the first `count` values of the return list.
@@ -105,7 +109,7 @@ pub fn put_line(
     out: &mut [u8],
     at: usize,
     letter: u8,
-    answer: Answer,
+    answer: Result<Answer, Refusal>,
     w: AdaptiveReceiverPacketWindow,
     returned: &[u32],
     count: usize,
@@ -139,7 +143,7 @@ pub fn put_list(
     if values.len() < count {
         return at;
     }
-    let pairs = put_head(out, at, b'l', Answer::Found(count as u32), w);
+    let pairs = put_head(out, at, b'l', Ok(Answer::Found(count as u32)), w);
     let end = put_pairs(out, pairs, sequences, values, count);
     put_byte(out, end, b'\n')
 }

@@ -1,6 +1,7 @@
 -- A line's answer, by what it asks for: what was done and put is what the definition says. Assumes nothing.
 use Rattle.std.proofs.Common.{◌≡◌, ℕ, zero, suc, ◌+◌, ◌*◌, ◌<◌, ◌≤◌, Bool, true, false, leb, List, [], length, take, sym, refl, ap, ◌∙◌, subst, true≢false, arith, le-ltb, lt-ltb, le-leb}
-use mathlib.Core.Option.{Option, none, some}
+use Rattle.std.specs.Prelude.{Option, None, Some}
+use mathlib.Core.Option as maybe
 use lib.Seq.{take-nil}
 use Rattle.window.specs.declared.AdaptiveReceiverPacketWindow.{AdaptiveReceiverPacketWindow}
 use Rattle.window.specs.declared.answers.Step.{Step}
@@ -22,7 +23,6 @@ use Rattle.call_base.specs.Answers.{answer_of, state_of, left_of}
 use Rattle.line_text.specs.PrintContracts.{Puts}
 use Rattle.line_output.specs.Output.{line_bytes, list_bytes, unknown_bytes}
 use Rattle.line_output.specs.Promises.{room_for, pairs_room, PutsIf}
-use Rattle.line_calls.specs.declared.Called.TheVariants.{Stepped, Unknown}
 use Rattle.line_calls.specs.Calls.{called, seen_by, taken, Makes, Made}
 use Rattle.line_calls.specs.List.{sequences_of, values_of, Lists}
 use Rattle.line_program.specs.Program.{kept_of, window_in, with_new, Printed, printed, unknown_line, new_or, new_line, call_line, list_line, on_window, command_line}
@@ -77,16 +77,16 @@ new-or (suc k) w v h = refl
 
 -- ---- the return list as a call sees it
 
-taken-few : (o : Option Bool) (l : List ℕ) → length (taken o l) ≤ length l
-taken-few none l = omega arith
-taken-few (some b) l = omega arith
+taken-few : (o : maybe.Option Bool) (l : List ℕ) → length (taken o l) ≤ length l
+taken-few maybe.none l = omega arith
+taken-few (maybe.some b) l = omega arith
 
-taken-first : (o : Option Bool) (n : ℕ) (l e : List ℕ) → take n (taken o l) ≡ e → n ≡ length e → take n l ≡ e
-taken-first none n l e t h =
+taken-first : (o : maybe.Option Bool) (n : ℕ) (l e : List ℕ) → take n (taken o l) ≡ e → n ≡ length e → take n l ≡ e
+taken-first maybe.none n l e t h =
     let z : e ≡ [] = sym t ∙ take-nil n in
     let k : n ≡ 0 = h ∙ ap length z in
     ap (λ (j : ℕ). take j l) k ∙ sym z
-taken-first (some b) n l e t h = t
+taken-first (maybe.some b) n l e t h = t
 
 -- an n with a larger window_size is no call
 pub new-larger : (size n d : ℕ) (u v : State) (at : ℕ) (out : List ℕ) (r : ℕ) (out' : List ℕ) → 4096 < size → Answers (unknown_line (kept_of u)) v at out r out'
@@ -98,23 +98,23 @@ new-larger size n d u v at out r out' l a = rw (lt-ltb 4096 size l) a
 listed : (g : Bool → Option Call) (l : List ℕ) → length l ≡ 384 → g (leb 384 (length l)) ≡ g true
 listed g l e = ap g (le-leb 384 (length l) (omega arith))
 
-module _ (g : Bool → Option Call) (u : State) (l : List ℕ) (m : Memory) (l' : List ℕ) (t : Made (g (leb 384 (length l))) u l Unknown m l') where
-  same_memory : (o : Option Call) → Made o u l Unknown m l' → m ≡ u.memory
-  same_memory none s = s.0
-  same_memory (some c) s = absurd s
+module _ (g : Bool → Option Call) (u : State) (l : List ℕ) (m : Memory) (l' : List ℕ) (t : Made (g (leb 384 (length l))) u l None m l') where
+  same_memory : (o : Option Call) → Made o u l None m l' → m ≡ u.memory
+  same_memory None s = s.0
+  same_memory (Some c) s = absurd s
 
   pub unmade-kept : Kept u → Kept (state_of u.header m)
   unmade-kept k = subst (λ (x : Memory). Kept (state_of u.header x)) (sym (same_memory (g (leb 384 (length l))) t)) k
 
   module _ (letter : ℕ) (v : State) (at : ℕ) (out : List ℕ) (r : ℕ) (out' : List ℕ) where
-    no_line : (o : Option Call) → Made o u l Unknown m l' → Answers (unknown_line (kept_of (state_of u.header m))) v at out r out'
+    no_line : (o : Option Call) → Made o u l None m l' → Answers (unknown_line (kept_of (state_of u.header m))) v at out r out'
         → Answers (command_line (kept_of u) letter (called o)) v at out r out'
-    no_line none s a = subst (λ (x : Memory). Answers (unknown_line (kept_of (state_of u.header x))) v at out r out') s.0 a
-    no_line (some c) s a = absurd s
+    no_line None s a = subst (λ (x : Memory). Answers (unknown_line (kept_of (state_of u.header x))) v at out r out') s.0 a
+    no_line (Some c) s a = absurd s
 
     pub unmade-answers : length l ≡ 384 → Answers (unknown_line (kept_of (state_of u.header m))) v at out r out'
         → Answers (command_line (kept_of u) letter (called (g true))) v at out r out'
-    unmade-answers e a = no_line (g true) (subst (λ (o : Option Call). Made o u l Unknown m l') (listed g l e) t) a
+    unmade-answers e a = no_line (g true) (subst (λ (o : Option Call). Made o u l None m l') (listed g l e) t) a
 
 -- the same answer by another name
 pub answers-as : (p q : Printed) (v : State) (at : ℕ) (out : List ℕ) (r : ℕ) (out' : List ℕ) → q ≡ p → Answers p v at out r out' → Answers q v at out r out'
@@ -226,15 +226,15 @@ module _ (at : ℕ) (out : List ℕ) (o : length out ≡ 262144) (few : at ≤ 6
 
   -- what a letter other than n and l did, of which the call is told whether the return list has 384 places
   module _ (g : Bool → Option Call) (letter : ℕ) (u : State) (l : List ℕ) (m : Memory) (l' : List ℕ) (before : length l ≡ 384) (r : ℕ) (out' : List ℕ) where
-    one_line : (o : Option Call) (s : Step) → Made o u l (Stepped s) m l' → Kept u → 0 < u.header.window_size → length l' ≡ 384
+    one_line : (o : Option Call) (s : Step) → Made o u l (Some s) m l' → Kept u → 0 < u.header.window_size → length l' ≡ 384
         → PutsIf (room_for (length out) at (length l') s.answer.count 21) at
         (line_bytes letter (answer_of s.answer.answer) s.window (take s.answer.count l')) out r out'
         → Answers (command_line (kept_of u) letter (called o)) (state_of s.window m) at out r out'
-    one_line none s t k has after p = absurd t
-    one_line (some c) s t k has after p = call-answers c letter u l s m l' t k has r out' before after p
+    one_line None s t k has after p = absurd t
+    one_line (Some c) s t k has after p = call-answers c letter u l s m l' t k has r out' before after p
 
-    pub made-answers : (s : Step) → Made (g (leb 384 (length l))) u l (Stepped s) m l' → Kept u → 0 < u.header.window_size → length l' ≡ 384
+    pub made-answers : (s : Step) → Made (g (leb 384 (length l))) u l (Some s) m l' → Kept u → 0 < u.header.window_size → length l' ≡ 384
         → PutsIf (room_for (length out) at (length l') s.answer.count 21) at
         (line_bytes letter (answer_of s.answer.answer) s.window (take s.answer.count l')) out r out'
         → Answers (command_line (kept_of u) letter (called (g true))) (state_of s.window m) at out r out'
-    made-answers s t = one_line (g true) s (subst (λ (o : Option Call). Made o u l (Stepped s) m l') (listed g l before) t)
+    made-answers s t = one_line (g true) s (subst (λ (o : Option Call). Made o u l (Some s) m l') (listed g l before) t)

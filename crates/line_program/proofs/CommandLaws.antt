@@ -1,6 +1,6 @@
 -- What a line asks for, by its letter. Assumes nothing.
 use Rattle.std.proofs.Common.{◌≡◌, ℕ, ◌<◌, true, refl, ap, ◌∙◌, arith, le-ltb, lt-ltb, ne_eqb}
-use mathlib.Core.Option.{Option, none, some}
+use Rattle.std.specs.Prelude.{Option, None, Some}
 use native.Mathlib.Decide.{ℕ_discrete}
 use Rattle.line_text.specs.declared.Fields.{Fields}
 use Rattle.line_text.specs.Lines.{fields_of_letter, among}
@@ -37,8 +37,8 @@ module _ (k : Window) (f : Fields) where
 
 -- before an accepted n
 no_call : (k : Window) (letter : ℕ) (o : Option Call) → size_of k ≡ 0 → command_line k letter (called o) ≡ unknown_line k
-no_call k letter none e = refl
-no_call k letter (some c) e = rw (le-ltb 0 (size_of k) (omega arith)) refl
+no_call k letter None e = refl
+no_call k letter (Some c) e = rw (le-ltb 0 (size_of k) (omega arith)) refl
 
 pub no-window : (k : Window) (f : Fields) → (f.letter ≡ 110 → ⊥) → size_of k ≡ 0 → command_line k f.letter (command_of (said_by f)) ≡ unknown_line k
 no-window k f n e = elim (ℕ_discrete f.letter 108) [

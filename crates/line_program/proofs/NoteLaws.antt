@@ -1,23 +1,9 @@
--- A line noted: the first that is no call is kept, any other is counted; line after line. Assumes nothing.
-use Rattle.std.proofs.Common.{◌≡◌, ℕ, ◌+◌, ◌%◌, ◌^◌, true, false, List, [], ◌∷◌, ◌++◌, refl, eq-eqb, ne_eqb}
+-- Lines noted one after another. Assumes nothing.
+use Rattle.std.proofs.Common.{◌≡◌, ℕ, List, [], ◌∷◌, ◌++◌, refl}
 use Rattle.model.specs.Window.{Window}
-use Rattle.line_faults.specs.declared.Fault.{Fault}
 use Rattle.line_program.specs.declared.notes.Notes.{Notes}
 use Rattle.line_program.specs.Program.{line_does, lines_do}
-use Rattle.line_program.specs.Notes.{notes, noted, noted_line, noted_lines}
-
-module _ (n : Notes) (fault : Fault) (first lines : ℕ) (e : lines ≡ (n.lines + 1) % 2 ^ 64) where
-  pub noted-later : n.unknown ≡ true → notes lines n.unknown n.number n.fault ≡ noted n fault first
-  unfolding noted
-  noted-later t = rw (e, t) refl
-
-  pub noted_call : (first ≡ 63 → ⊥) → n.unknown ≡ false → notes lines n.unknown n.number n.fault ≡ noted n fault first
-  unfolding noted
-  noted_call h t = rw (e, t, ne_eqb first 63 h) refl
-
-  pub noted-first : first ≡ 63 → n.unknown ≡ false → notes lines true lines fault ≡ noted n fault first
-  unfolding noted
-  noted-first h t = rw (e, t, eq-eqb first 63 h) refl
+use Rattle.line_program.specs.Notes.{noted_line, noted_lines}
 
 pub noted_one : (k : Window) (n : Notes) (l : List ℕ) → noted_lines k n (l ∷ []) ≡ noted_line k n l
 unfolding noted_lines

@@ -1,24 +1,28 @@
 -- What is noted of the lines, for the message to the one who wrote them. Definitions only. Assumes nothing.
-use Rattle.std.specs.Prelude.{ℕ, ◌+◌, ◌%◌, ◌^◌, Bool, true, false, cond, not, ◌&&◌, List, [], ◌∷◌, length, ◌==◌, nat_lt, slice_index}
+use Rattle.std.specs.Prelude.{ℕ, ◌+◌, ◌%◌, ◌^◌, cond, ◌&&◌, Option, None, Some, is_none, List, [], ◌∷◌, length, ◌==◌, nat_lt, slice_index}
 use Rattle.model.specs.Window.{Window}
 use Rattle.line_faults.specs.declared.Fault.{Fault}
 use Rattle.line_faults.specs.declared.Fault.TheVariants.{Long}
 use Rattle.line_faults.specs.Faults.{fault_of_text}
 use Rattle.line_program.specs.declared.notes.Notes.{Notes}
+use Rattle.line_program.specs.declared.notes.UnknownLine.{UnknownLine}
 use Rattle.line_program.specs.Program.{line_does}
 
-abbrev pub notes : ℕ → Bool → ℕ → Fault → Notes
-notes lines unknown number fault = record { lines = lines; unknown = unknown; number = number; fault = fault }
+abbrev pub notes : ℕ → Option UnknownLine → Notes
+notes lines unknown = record { lines = lines; unknown = unknown }
 
--- before the first line: number and fault say nothing yet
+abbrev pub unknown_line_at : ℕ → Fault → UnknownLine
+unknown_line_at number fault = record { number = number; fault = fault }
+
+-- before the first line
 abbrev pub no_notes : Notes
-no_notes = notes 0 false 0 Long
+no_notes = notes 0 None
 
 -- a line more, what is wrong with it, and the first byte of its answer: the first line that is answered `?`, 63, is kept
 unfoldable pub noted : Notes → Fault → ℕ → Notes
 noted n fault first =
     let lines = (n.lines + 1) % 2 ^ 64 in
-    cond (not n.unknown && first == 63) (notes lines true lines fault) (notes lines n.unknown n.number n.fault)
+    cond (is_none n.unknown && first == 63) (notes lines (Some (unknown_line_at lines fault))) (notes lines n.unknown)
 
 -- what is wrong with the line of these bytes; a line has 64 places
 unfoldable pub fault_in : List ℕ → Fault

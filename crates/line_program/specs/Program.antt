@@ -1,6 +1,6 @@
 -- What the line program prints for its input. Document 01, 'The line program'. Definitions only. Assumes nothing.
 use Rattle.std.specs.Prelude.{ℕ, zero, suc, cond, List, [], ◌∷◌, ◌++◌, nat_lt}
-use Rattle.std.proofs.Math.Option.{Option, none, some}
+use Rattle.std.specs.Prelude.{Option, None, Some}
 use Rattle.window.specs.Refusals.{limits}
 use Rattle.window.specs.New.{fresh}
 use Rattle.model.specs.Calls.{Call, done, refused}
@@ -89,8 +89,8 @@ command_line k letter (make c) = on_window k (call_line k letter c)
 command_line k letter nothing = unknown_line k
 
 abbrev pub said_line : Window → Option Line → Printed
-said_line k none = unknown_line k
-said_line k (some l) = command_line k l.letter (command_of l)
+said_line k None = unknown_line k
+said_line k (Some l) = command_line k l.letter (command_of l)
 
 -- the bytes of a line, without its line feed
 unfoldable pub line_does : Window → List ℕ → Printed

@@ -1,6 +1,6 @@
 -- What the functions of the line program leave. Definitions only. Assumes nothing.
 use Rattle.std.specs.Prelude.{◌≡◌, ℕ, ◌+◌, ◌<◌, ◌≤◌, true, cond, List, [], ◌∷◌, ◌++◌, length, take, nat_lt, slice_index, slice_range}
-use Rattle.std.proofs.Math.Option.{Option, none}
+use Rattle.std.specs.Prelude.{Option, None}
 use Rattle.line_text.specs.Lines.{Line, line_of, parts, ended, waiting}
 use Rattle.line_text.specs.PrintContracts.{Puts}
 use Rattle.window.specs.declared.AdaptiveReceiverPacketWindow.{AdaptiveReceiverPacketWindow}
@@ -42,7 +42,7 @@ AnswersBy p w ss vs pages blocks out at r =
 
 -- the first n bytes of a line, as document 01 reads them; nothing if more came than the line has places for
 unfoldable pub gathered : List ℕ → ℕ → Option Line
-gathered line n = cond (nat_lt (length line) n) none (line_of (take n line))
+gathered line n = cond (nat_lt (length line) n) None (line_of (take n line))
 
 -- the bytes b have come of a line, and no line feed in them: they stand in its places, or are more than these; a line feed is 10
 pub record Holds (line : List ℕ) (n : ℕ) (b : List ℕ) : Type 0 where

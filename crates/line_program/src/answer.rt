@@ -1,18 +1,18 @@
 // One line: what it asks for, done and put out.
-ghost use Rattle.std.specs.Prelude.{◌≡◌, ◌<◌, ◌≤◌, true};
+ghost use Rattle.std.specs.Prelude.{◌≡◌, ◌<◌, ◌≤◌, true, option_map};
 ghost use Rattle.window.specs.Lent.{lent, lent_mut};
-ghost use Rattle.line_text.specs.Promises.{said_by, line_answer};
+ghost use Rattle.line_text.specs.Promises.{said_by};
 ghost use Rattle.line_calls.specs.Calls.{call_of, called, command_of};
 ghost use Rattle.line_program.specs.Program.{unknown_line, new_line, list_line, command_line, said_line};
 ghost use Rattle.line_program.specs.Promises.{KeptIn, AnswersBy, gathered};
 
+use line_calls::call;
 use line_calls::list::live_pairs;
-use line_calls::{Called, call};
 use line_output::{put_line, put_list, put_unknown};
-use line_text::{Fields, Parsed, parse};
+use line_text::{Fields, parse};
+use window::AdaptiveReceiverPacketWindow;
 use window::answers::Answer;
 use window::memory::{BLOCK_WORDS, PAGE_SLOTS, PAGE_WORDS};
-use window::{AdaptiveReceiverPacketWindow, Created};
 
 // The words for the 64 pages of a window of 4096, and for their one block.
 pub const PAGE_LIST: usize = 4096 / PAGE_SLOTS * PAGE_WORDS;
@@ -65,17 +65,16 @@ fn create(
     if 4096 < f.first {
         return unknown(w, sequences, values, pages, blocks, out, at);
     }
-    let made = AdaptiveReceiverPacketWindow::new(
+    match AdaptiveReceiverPacketWindow::new(
         sequences, values, pages, blocks, f.first, f.second, f.third,
-    );
-    match made {
-        Created::New(window) => Answered {
+    ) {
+        Ok(window) => Answered {
             window,
-            at: put_line(out, at, b'n', Answer::Done, window, returned, 0),
+            at: put_line(out, at, b'n', Ok(Answer::Done), window, returned, 0),
         },
-        Created::Refused(why) => Answered {
+        Err(why) => Answered {
             window: w,
-            at: put_line(out, at, b'n', Answer::Refused(why), w, returned, 0),
+            at: put_line(out, at, b'n', Err(why), w, returned, 0),
         },
     }
 }
@@ -130,26 +129,15 @@ fn answer_call(
     ensures { AnswersBy (λ k. command_line k f.letter (called (call_of (said_by f) true))) w (lent_mut sequences) (lent_mut values) (lent_mut pages) (lent_mut blocks) (lent_mut out) at result }
 {
     let letter = f.letter;
-    let called = call(w, sequences, values, pages, blocks, returned, f);
-    match called {
-        Called::Stepped(step) => {
-            let window = step.window;
-            let outcome = step.answer;
-            let given = outcome.answer;
-            Answered {
-                window,
-                at: put_line(
-                    out,
-                    at,
-                    letter,
-                    given,
-                    window,
-                    returned,
-                    outcome.count as usize,
-                ),
-            }
-        }
-        Called::Unknown => unknown(w, sequences, values, pages, blocks, out, at),
+    let Some(step) = call(w, sequences, values, pages, blocks, returned, f) else {
+        return unknown(w, sequences, values, pages, blocks, out, at);
+    };
+    let window = step.window;
+    let outcome = step.answer;
+    let count = outcome.count as usize;
+    Answered {
+        window,
+        at: put_line(out, at, letter, outcome.answer, window, returned, count),
     }
 }
 
@@ -194,13 +182,14 @@ fn answer(
 }
 
 // What the first `length` bytes of `line` say; no call if a line had more bytes than it has places.
-fn parse_line(line: &[u8], length: usize) -> Parsed
-    ensures { line_answer result ≡ gathered line.now length }
+#[tactic(auto, unfolding(crate::specs::Promises::gathered))]
+fn parse_line(line: &[u8], length: usize) -> Option<Fields>
+    ensures { option_map said_by result ≡ gathered line.now length }
 {
     if line.len() < length {
-        return Parsed::Bad;
+        return None;
     }
-    parse(&line[0..length])
+    parse(&line[..length])
 }
 
 // The answer of a line that has ended: its first `length` bytes.
@@ -222,21 +211,20 @@ pub fn answer_line(
     requires at_bound { at ≤ 65536 }
     ensures { AnswersBy (λ k. said_line k (gathered line.now length)) w (lent_mut sequences) (lent_mut values) (lent_mut pages) (lent_mut blocks) (lent_mut out) at result }
 {
-    let parsed = parse_line(line, length);
-    match parsed {
-        Parsed::Call(f) => answer(
-            w,
-            sequences,
-            values,
-            pages,
-            blocks,
-            returned,
-            listed_sequences,
-            listed_values,
-            out,
-            at,
-            f,
-        ),
-        Parsed::Bad => unknown(w, sequences, values, pages, blocks, out, at),
-    }
+    let Some(f) = parse_line(line, length) else {
+        return unknown(w, sequences, values, pages, blocks, out, at);
+    };
+    answer(
+        w,
+        sequences,
+        values,
+        pages,
+        blocks,
+        returned,
+        listed_sequences,
+        listed_values,
+        out,
+        at,
+        f,
+    )
 }

@@ -97,10 +97,11 @@ fn take_line(
     let to = next_byte(part, from, b'\n');
     let length = append(line, p.length, &part[from..to]);
     if to == part.len() {
-        let mut rest = p;
-        rest.length = length;
-        rest.from = to;
-        return rest;
+        return Program {
+            length,
+            from: to,
+            ..p
+        };
     }
     end_line(
         p,

@@ -1,7 +1,7 @@
 -- A line: what it says, from its letter on, field by field. Assumes nothing.
 use mathlib.Core.Path.{◌≡◌, refl, sym, ap, ◌∙◌}
 use mathlib.Core.Bool.{Bool, true, false, cond}
-use mathlib.Core.Option.{Option, none, some}
+use Rattle.std.specs.Prelude.{Option, None, Some, unwrap_or}
 use mathlib.Core.List.{List, [], ◌∷◌, ◌++◌, append_assoc, append-nil}
 use Prim.Native.Nat.{ℕ, zero, suc, ◌+◌, ◌-◌, ◌≤◌, ◌<◌}
 use native.Mathlib.Nat.{add-zero}
@@ -14,19 +14,19 @@ use lib.Seq.{drop-cons, drop-drop, get_or-drop}
 use borrow.Author.Tests.{eq-eqb, ne_eqb}
 use Rattle.line_text.specs.Fields.{field_of}
 use Rattle.line_text.specs.Lines.{Line, line, joined, parts, both, numbers, among, fields_of_letter, counted, of_parts, line_of}
-use Rattle.line_text.specs.Promises.{count_or4, field_count_of, NextByte}
+use Rattle.line_text.specs.Promises.{field_count_of, NextByte}
 use Rattle.line_text.proofs.PartLaws.{after, first_part, at-separator, at-another, parts-some}
 
 -- the numbers of the fields after a part that ends where the bytes begin; none if they do not begin with a tab
 unfoldable pub fields_after : List ℕ → Option (List ℕ)
-fields_after [] = some []
-fields_after (b ∷ bs) = elim (eqb b 9) [ true ↦ numbers (parts 9 bs) | false ↦ none ]
+fields_after [] = Some []
+fields_after (b ∷ bs) = elim (eqb b 9) [ true ↦ numbers (parts 9 bs) | false ↦ None ]
 
 pub at-tab : (b : ℕ) (bs : List ℕ) → b ≡ 9 → fields_after (b ∷ bs) ≡ numbers (parts 9 bs)
 unfolding fields_after
 at-tab b bs e = rw (fields_after, eq-eqb b 9 e) refl
 
-pub at_other : (b : ℕ) (bs : List ℕ) → (b ≡ 9 → ⊥) → fields_after (b ∷ bs) ≡ none
+pub at_other : (b : ℕ) (bs : List ℕ) → (b ≡ 9 → ⊥) → fields_after (b ∷ bs) ≡ None
 unfolding fields_after
 at_other b bs e = rw (fields_after, ne_eqb b 9 e) refl
 
@@ -43,59 +43,59 @@ first_field bs k l n f = ap numbers (first_part 9 bs k l n f)
 
 -- the numbers ns, then those
 abbrev pub prefixed : List ℕ → Option (List ℕ) → Option (List ℕ)
-prefixed ns none = none
-prefixed ns (some ms) = some (ns ++ ms)
+prefixed ns None = None
+prefixed ns (Some ms) = Some (ns ++ ms)
 
 pub prefixed-none : (x : Option (List ℕ)) → prefixed [] x ≡ x
-prefixed-none none = refl
-prefixed-none (some ms) = refl
+prefixed-none None = refl
+prefixed-none (Some ms) = refl
 
-prefixed-more : (ns : List ℕ) (n : ℕ) (x : Option (List ℕ)) → prefixed (ns ++ (n ∷ [])) x ≡ prefixed ns (both (some n) x)
-prefixed-more ns n none = refl
-prefixed-more ns n (some ms) = ap some (append_assoc ns (n ∷ []) ms)
+prefixed-more : (ns : List ℕ) (n : ℕ) (x : Option (List ℕ)) → prefixed (ns ++ (n ∷ [])) x ≡ prefixed ns (both (Some n) x)
+prefixed-more ns n None = refl
+prefixed-more ns n (Some ms) = ap Some (append_assoc ns (n ∷ []) ms)
 
 -- the answer of a line with letter b whose fields so far wrote ns, and whose rest is bs
 unfoldable pub rest_of : ℕ → List ℕ → List ℕ → Option Line
 rest_of b ns bs = counted b (fields_of_letter b) (prefixed ns (fields_after bs))
 
 -- as many numbers as the letter takes, or not
-counted_none : (b : ℕ) (o : Option ℕ) → counted b o none ≡ none
-counted_none b none = refl
-counted_none b (some k) = refl
+counted_none : (b : ℕ) (o : Option ℕ) → counted b o None ≡ None
+counted_none b None = refl
+counted_none b (Some k) = refl
 
-pub counted-other : (b : ℕ) (o : Option ℕ) (ns : List ℕ) → (length ns ≡ count_or4 o → ⊥) → counted b o (some ns) ≡ none
-counted-other b none ns e = refl
-counted-other b (some k) ns e = rw (ne_eqb (length ns) k e) refl
+pub counted-other : (b : ℕ) (o : Option ℕ) (ns : List ℕ) → (length ns ≡ unwrap_or o 4 → ⊥) → counted b o (Some ns) ≡ None
+counted-other b None ns e = refl
+counted-other b (Some k) ns e = rw (ne_eqb (length ns) k e) refl
 
-counted_same : (b : ℕ) (o : Option ℕ) (ns : List ℕ) → count_or4 o ≤ 3 → length ns ≡ count_or4 o → counted b o (some ns) ≡ some (line b ns)
-counted_same b none ns l e = absurd (omega arith)
-counted_same b (some k) ns l e = rw (eq-eqb (length ns) k e) refl
+counted_same : (b : ℕ) (o : Option ℕ) (ns : List ℕ) → unwrap_or o 4 ≤ 3 → length ns ≡ unwrap_or o 4 → counted b o (Some ns) ≡ Some (line b ns)
+counted_same b None ns l e = absurd (omega arith)
+counted_same b (Some k) ns l e = rw (eq-eqb (length ns) k e) refl
 
-counted-more : (b : ℕ) (o : Option ℕ) (ns : List ℕ) (x : Option ℕ) (y : Option (List ℕ)) → length ns ≡ count_or4 o
-    → counted b o (prefixed ns (both x y)) ≡ none
-counted-more b o ns none y e = counted_none b o
-counted-more b o ns (some n) none e = counted_none b o
-counted-more b o ns (some n) (some ms) e = counted-other b o (ns ++ n ∷ ms) (λ q. omega (arith, length-append ns (n ∷ ms)))
+counted-more : (b : ℕ) (o : Option ℕ) (ns : List ℕ) (x : Option ℕ) (y : Option (List ℕ)) → length ns ≡ unwrap_or o 4
+    → counted b o (prefixed ns (both x y)) ≡ None
+counted-more b o ns None y e = counted_none b o
+counted-more b o ns (Some n) None e = counted_none b o
+counted-more b o ns (Some n) (Some ms) e = counted-other b o (ns ++ n ∷ ms) (λ q. omega (arith, length-append ns (n ∷ ms)))
 
--- another letter
+-- no letter takes more than three fields
 abbrev choice : Bool → Bool → Bool → Bool → Option ℕ
-choice s t u v = cond s (some 3) (cond t (some 2) (cond u (some 1) (cond v (some 0) none)))
+choice s t u v = cond s (Some 3) (cond t (Some 2) (cond u (Some 1) (cond v (Some 0) None)))
 
-none_of_four : (s t u v : Bool) → 3 < count_or4 (choice s t u v) → choice s t u v ≡ none
-none_of_four true t u v l = absurd (omega arith)
-none_of_four false true u v l = absurd (omega arith)
-none_of_four false false true v l = absurd (omega arith)
-none_of_four false false false true l = absurd (omega arith)
-none_of_four false false false false l = refl
+few_of_four : (s t u v : Bool) (k : ℕ) → choice s t u v ≡ Some k → k ≤ 3
+few_of_four true t u v k e = grind arith
+few_of_four false true u v k e = grind arith
+few_of_four false false true v k e = grind arith
+few_of_four false false false true k e = grind arith
+few_of_four false false false false k e = grind arith
 
-pub unknown : (b : ℕ) → 3 < field_count_of b → fields_of_letter b ≡ none
+pub few : (b k : ℕ) → fields_of_letter b ≡ Some k → k ≤ 3
 unfolding fields_of_letter
-unknown b l =
-    none_of_four (among b (110 ∷ [])) (among b (105 ∷ 101 ∷ 100 ∷ 113 ∷ []))
-    (among b (103 ∷ 114 ∷ 115 ∷ 102 ∷ 98 ∷ 118 ∷ 97 ∷ [])) (among b (99 ∷ 108 ∷ 116 ∷ [])) l
+few b k e =
+    few_of_four (among b (110 ∷ [])) (among b (105 ∷ 101 ∷ 100 ∷ 113 ∷ []))
+    (among b (103 ∷ 114 ∷ 115 ∷ 102 ∷ 98 ∷ 118 ∷ 97 ∷ [])) (among b (99 ∷ 108 ∷ 116 ∷ [])) k e
 
 -- the letter: what is after it decides
-joined-long : (b c : ℕ) (ps : List (List ℕ)) → of_parts (joined b (joined c ps)) ≡ none
+joined-long : (b c : ℕ) (ps : List (List ℕ)) → of_parts (joined b (joined c ps)) ≡ None
 joined-long b c [] = refl
 joined-long b c (p ∷ ps) = refl
 
@@ -120,14 +120,14 @@ pub begins : (bs : List ℕ) → 0 < length bs → rest_of (get_or bs 0 0) [] (d
 begins [] l = absurd (omega arith)
 begins (b ∷ bs) l = elim (ℕ_discrete b 9) [ yes e ↦ tab-first b bs e | no e ↦ letter-first b bs e ]
 
-pub no_line : (bs : List ℕ) → length bs ≡ 0 → none ≡ line_of bs
+pub no_line : (bs : List ℕ) → length bs ≡ 0 → None ≡ line_of bs
 unfolding line_of parts
 no_line [] e = refl
 no_line (b ∷ bs) e = absurd (omega arith)
 
-pub no-letter : (b : ℕ) (ns bs : List ℕ) → 3 < field_count_of b → rest_of b ns bs ≡ none
+pub no-letter : (b : ℕ) (ns bs : List ℕ) → fields_of_letter b ≡ None → rest_of b ns bs ≡ None
 unfolding rest_of
-no-letter b ns bs l = rw (unknown b l) refl
+no-letter b ns bs l = rw l refl
 
 drop_all : (a : ℕ) (bs : List ℕ) → length bs ≤ a → drop a bs ≡ []
 drop_all zero [] l = refl
@@ -137,25 +137,25 @@ drop_all (suc a) (b ∷ bs) l = drop_all a bs (omega arith)
 
 -- a field too many
 some-part : (b : ℕ) (ns : List ℕ) (ps : List (List ℕ)) → 0 < length ps → length ns ≡ field_count_of b
-    → counted b (fields_of_letter b) (prefixed ns (numbers ps)) ≡ none
+    → counted b (fields_of_letter b) (prefixed ns (numbers ps)) ≡ None
 unfolding numbers
 some-part b ns [] l h = absurd (omega arith)
 some-part b ns (p ∷ ps) l h = counted-more b (fields_of_letter b) ns (field_of p) (numbers ps) h
 
-more-fields : (b : ℕ) (ns bs : List ℕ) → length ns ≡ field_count_of b → counted b (fields_of_letter b) (prefixed ns (numbers (parts 9 bs))) ≡ none
+more-fields : (b : ℕ) (ns bs : List ℕ) → length ns ≡ field_count_of b → counted b (fields_of_letter b) (prefixed ns (numbers (parts 9 bs))) ≡ None
 more-fields b ns bs h = some-part b ns (parts 9 bs) (parts-some 9 bs) h
 
 -- what the rest says, by how it begins
 module _ (b : ℕ) (ns bs : List ℕ) (a : ℕ) where
-  pub ended : length bs ≤ a → length ns < field_count_of b → rest_of b ns (drop a bs) ≡ none
+  pub ended : length bs ≤ a → length ns < field_count_of b → rest_of b ns (drop a bs) ≡ None
   unfolding rest_of fields_after
   ended l h = rw (drop_all a bs l, append-nil ns) (counted-other b (fields_of_letter b) ns (λ e. omega arith))
 
-  pub no-tab : a < length bs → (get_or bs a 0 ≡ 9 → ⊥) → rest_of b ns (drop a bs) ≡ none
+  pub no-tab : a < length bs → (get_or bs a 0 ≡ 9 → ⊥) → rest_of b ns (drop a bs) ≡ None
   unfolding rest_of
   no-tab l h = rw (drop-cons bs a 0 l, at_other (get_or bs a 0) (drop (suc a) bs) h) (counted_none b (fields_of_letter b))
 
-  pub too_long : a < length bs → length ns ≡ field_count_of b → rest_of b ns (drop a bs) ≡ none
+  pub too_long : a < length bs → length ns ≡ field_count_of b → rest_of b ns (drop a bs) ≡ None
   unfolding rest_of
   too_long l h =
       elim (ℕ_discrete (get_or bs a 0) 9) [
@@ -163,7 +163,7 @@ module _ (b : ℕ) (ns bs : List ℕ) (a : ℕ) where
         | no e ↦ no-tab l e
       ]
 
-  pub whole : length bs ≤ a → field_count_of b ≤ 3 → length ns ≡ field_count_of b → rest_of b ns (drop a bs) ≡ some (line b ns)
+  pub whole : length bs ≤ a → field_count_of b ≤ 3 → length ns ≡ field_count_of b → rest_of b ns (drop a bs) ≡ Some (line b ns)
   unfolding rest_of fields_after
   whole l f h = rw (drop_all a bs l, append-nil ns) (counted_same b (fields_of_letter b) ns f h)
 
@@ -183,11 +183,11 @@ module _ (bs : List ℕ) (a e : ℕ) (l : a < length bs) (t : get_or bs a 0 ≡ 
       ∙ ap (both (field_of (take (e - (a + 1)) (drop (a + 1) bs))))
       (fields-after (drop e bs) (λ h. rw (get_or-drop e bs 0 0, add-zero e) (n.found (omega (arith, length-drop e bs)))))
 
-  pub bad-field : (b : ℕ) (ns : List ℕ) → none ≡ field_of (take (e - (a + 1)) (drop (a + 1) bs)) → rest_of b ns (drop a bs) ≡ none
+  pub bad-field : (b : ℕ) (ns : List ℕ) → None ≡ field_of (take (e - (a + 1)) (drop (a + 1) bs)) → rest_of b ns (drop a bs) ≡ None
   unfolding rest_of
   bad-field b ns f = rw (next_field, ← f) (counted_none b (fields_of_letter b))
 
-  pub read-field : (b : ℕ) (ns : List ℕ) (v : ℕ) → some v ≡ field_of (take (e - (a + 1)) (drop (a + 1) bs))
+  pub read-field : (b : ℕ) (ns : List ℕ) (v : ℕ) → Some v ≡ field_of (take (e - (a + 1)) (drop (a + 1) bs))
       → rest_of b (ns ++ (v ∷ [])) (drop e bs) ≡ rest_of b ns (drop a bs)
   unfolding rest_of
   read-field b ns v f = rw (next_field, ← f) (ap (counted b (fields_of_letter b)) (prefixed-more ns v (fields_after (drop e bs))))

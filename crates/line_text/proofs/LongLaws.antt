@@ -1,7 +1,7 @@
 -- A long line is no call: a letter takes at most three fields, a field has at most ten digits, so a call's line has at most 34 bytes.
 -- Assumes nothing.
 use mathlib.Core.Path.{◌≡◌, refl, sym, ap, subst, ◌∙◌}
-use mathlib.Core.Option.{Option, none, some}
+use Rattle.std.specs.Prelude.{Option, None, Some}
 use mathlib.Core.List.{List, [], ◌∷◌}
 use Prim.Native.Nat.{ℕ, zero, suc, ◌+◌, ◌*◌, ◌-◌, ◌^◌, ◌≤◌, ◌<◌}
 use native.Mathlib.Nat.{pow-suc, mul_assoc, mul_comm}
@@ -10,10 +10,9 @@ use native.Mathlib.Decide.{ℕ_discrete, dec_le}
 use lib.ListN.{length}
 use Rattle.line_text.specs.Fields.{number_from, field_of}
 use Rattle.line_text.specs.Lines.{joined, parts, both, numbers, fields_of_letter, counted, of_parts, line_of}
-use Rattle.line_text.specs.Promises.{count_or4, field_count_of}
 use Rattle.line_text.proofs.FieldLaws.{rest_of, grows, starts, zero-leads, low_byte, too_large}
 use Rattle.line_text.proofs.PartLaws.{no_bytes, at-separator, at-another, parts-some}
-use Rattle.line_text.proofs.LineLaws.{unknown, counted-other}
+use Rattle.line_text.proofs.LineLaws.{few, counted-other}
 
 -- ---- a field of more than ten bytes
 -- k more digits write at least 10 ^ k times as much
@@ -29,14 +28,14 @@ large : (b : ℕ) (bs : List ℕ) → 48 < b → 10 ≤ length bs → 4294967295
 unfolding number_from
 large b bs h l = omega (arith, more-digits 10 1 (0 * 10 + (b - 48)) bs (omega arith) l)
 
-long_rest : (b : ℕ) (bs : List ℕ) → (b ≡ 48 → ⊥) → 10 ≤ length bs → rest_of 0 (b ∷ bs) ≡ none
+long_rest : (b : ℕ) (bs : List ℕ) → (b ≡ 48 → ⊥) → 10 ≤ length bs → rest_of 0 (b ∷ bs) ≡ None
 long_rest b bs n l =
     elim (dec_le 48 b) [
       | yes h ↦ too_large 0 (b ∷ bs) (large b bs (omega (arith, h, n)) l)
       | no h ↦ low_byte 0 b bs (omega (arith, h))
     ]
 
-long-field : (bs : List ℕ) → 10 < length bs → field_of bs ≡ none
+long-field : (bs : List ℕ) → 10 < length bs → field_of bs ≡ None
 long-field [] l = absurd (omega arith)
 long-field (b ∷ bs) l =
     elim (ℕ_discrete b 48) [
@@ -63,16 +62,16 @@ parts-size sep (b ∷ bs) =
 
 -- ---- fields that write numbers have at most ten bytes each
 abbrev FieldFits : Option ℕ → ℕ → Type 0
-FieldFits none k = Unit {0}
-FieldFits (some n) k = k ≤ 10
+FieldFits None k = Unit {0}
+FieldFits (Some n) k = k ≤ 10
 
 abbrev Fits : Option (List ℕ) → ℕ → Type 0
-Fits none k = Unit {0}
-Fits (some ns) k = k ≤ 11 * length ns
+Fits None k = Unit {0}
+Fits (Some ns) k = k ≤ 11 * length ns
 
 short-fits : (x : Option ℕ) (k : ℕ) → k ≤ 10 → FieldFits x k
-short-fits none k l = tt
-short-fits (some n) k l = l
+short-fits None k l = tt
+short-fits (Some n) k l = l
 
 field_fits : (p : List ℕ) → FieldFits (field_of p) (length p)
 field_fits p =
@@ -82,9 +81,9 @@ field_fits p =
     ]
 
 both-fit : (x : Option ℕ) (y : Option (List ℕ)) (j k : ℕ) → FieldFits x j → Fits y k → Fits (both x y) (j + 1 + k)
-both-fit none y j k f g = tt
-both-fit (some n) none j k f g = tt
-both-fit (some n) (some ns) j k f g = omega arith
+both-fit None y j k f g = tt
+both-fit (Some n) None j k f g = tt
+both-fit (Some n) (Some ns) j k f g = omega arith
 
 numbers_fit : (ps : List (List ℕ)) → Fits (numbers ps) (size ps)
 unfolding numbers
@@ -92,27 +91,23 @@ numbers_fit [] = omega arith
 numbers_fit (p ∷ ps) = both-fit (field_of p) (numbers ps) (length p) (size ps) (field_fits p) (numbers_fit ps)
 
 -- ---- a letter takes at most three
-too_many : (b : ℕ) (o : Option ℕ) (y : Option (List ℕ)) (k : ℕ) → count_or4 o ≤ 3 → Fits y k → 33 < k → counted b o y ≡ none
-too_many b none y k h f l = refl
-too_many b (some j) none k h f l = refl
-too_many b (some j) (some ns) k h f l = counted-other b (some j) ns (λ e. omega (arith, e))
+too_many : (b : ℕ) (o : Option ℕ) (y : Option (List ℕ)) (k : ℕ) → ((j : ℕ) → o ≡ Some j → j ≤ 3) → Fits y k → 33 < k → counted b o y ≡ None
+too_many b None y k h f l = refl
+too_many b (Some j) None k h f l = refl
+too_many b (Some j) (Some ns) k h f l = counted-other b (Some j) ns (λ e. omega (arith, e, h j refl))
 
-long-fields : (b : ℕ) (ps : List (List ℕ)) → 33 < size ps → counted b (fields_of_letter b) (numbers ps) ≡ none
-long-fields b ps l =
-    elim (dec_le (field_count_of b) 3) [
-      | yes h ↦ too_many b (fields_of_letter b) (numbers ps) (size ps) h (numbers_fit ps) l
-      | no h ↦ ap (λ (o : Option ℕ). counted b o (numbers ps)) (unknown b (omega (arith, h)))
-    ]
+long-fields : (b : ℕ) (ps : List (List ℕ)) → 33 < size ps → counted b (fields_of_letter b) (numbers ps) ≡ None
+long-fields b ps l = too_many b (fields_of_letter b) (numbers ps) (size ps) (few b) (numbers_fit ps) l
 
-long-parts : (ps : List (List ℕ)) → 35 < size ps → of_parts ps ≡ none
+long-parts : (ps : List (List ℕ)) → 35 < size ps → of_parts ps ≡ None
 long-parts [] l = refl
 long-parts ([] ∷ ps) l = refl
 long-parts ((b ∷ []) ∷ ps) l = long-fields b ps (omega arith)
 long-parts ((b ∷ c ∷ bs) ∷ ps) l = refl
 
-above-34 : (bs : List ℕ) → 34 < length bs → line_of bs ≡ none
+above-34 : (bs : List ℕ) → 34 < length bs → line_of bs ≡ None
 unfolding line_of
 above-34 bs l = long-parts (parts 9 bs) (omega (arith, parts-size 9 bs))
 
-pub long-line : (bs : List ℕ) → 64 < length bs → line_of bs ≡ none
+pub long-line : (bs : List ℕ) → 64 < length bs → line_of bs ≡ None
 long-line bs l = above-34 bs (omega arith)

@@ -180,3 +180,6 @@ all-put at i r part out out' l p = rw (take_all i part l) at p
 
 pub bytes-more : (part : List ℕ) (i : ℕ) → i < length part → take (i + 1) part ≡ take i part ++ (get_or part i 0 ∷ [])
 bytes-more part i h = rw (add-one i) (take-suc part i 0 h)
+
+pub pairs-all : (ss vs : List ℕ) (n : ℕ) → length ss ≤ n → length vs ≤ n → pairs_so_far ss vs n ≡ paired ss vs
+pairs-all ss vs n l m = rw (take_all n ss l, take_all n vs m) refl

@@ -1,7 +1,6 @@
 -- How a field is written. Document 01, 'The line program': "decimal, no leading zeros", at most 4294967295. Definitions only.
 -- Assumes nothing.
-use Rattle.std.specs.Prelude.{Bool, true, false, cond, ◌&&◌, List, [], ◌∷◌, ℕ, ◌+◌, ◌-◌, ◌*◌, leb, eqb}
-use Rattle.std.proofs.Math.Option.{Option, none, some}
+use Rattle.std.specs.Prelude.{Bool, true, false, cond, ◌&&◌, Option, None, Some, List, [], ◌∷◌, ℕ, ◌+◌, ◌-◌, ◌*◌, leb, eqb}
 
 -- the byte of a decimal digit: 0 is 48, 9 is 57
 abbrev pub is_digit : ℕ → Bool
@@ -27,4 +26,4 @@ is_plain (b ∷ c ∷ bs) = cond (eqb b 48) false true
 
 -- "or a field not so written or above 4294967295"
 unfoldable pub field_of : List ℕ → Option ℕ
-field_of bs = cond (is_plain bs && (all_digits bs && leb (number bs) 4294967295)) (some (number bs)) none
+field_of bs = cond (is_plain bs && (all_digits bs && leb (number bs) 4294967295)) (Some (number bs)) None

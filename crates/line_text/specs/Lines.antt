@@ -1,7 +1,6 @@
 -- What a line says. Document 01, 'The line program'. A line is a list of bytes, without its line feed. Definitions only.
 -- Assumes nothing.
-use Rattle.std.specs.Prelude.{Bool, true, false, cond, List, [], ◌∷◌, ℕ, eqb, length}
-use Rattle.std.proofs.Math.Option.{Option, none, some}
+use Rattle.std.specs.Prelude.{Bool, true, false, cond, Option, None, Some, List, [], ◌∷◌, ℕ, eqb, length}
 use Rattle.line_text.specs.Fields.{field_of}
 
 -- b before the first part
@@ -28,13 +27,13 @@ waiting (p ∷ []) = p
 waiting (p ∷ q ∷ ps) = waiting (q ∷ ps)
 
 abbrev pub both : Option ℕ → Option (List ℕ) → Option (List ℕ)
-both none rest = none
-both (some n) none = none
-both (some n) (some ns) = some (n ∷ ns)
+both None rest = None
+both (Some n) None = None
+both (Some n) (Some ns) = Some (n ∷ ns)
 
 -- the numbers that fields write; none if one is not written as a field is
 unfoldable pub numbers : List (List ℕ) → Option (List ℕ)
-numbers [] = some []
+numbers [] = Some []
 numbers (p ∷ ps) = both (field_of p) (numbers ps)
 
 -- a letter is among others
@@ -47,11 +46,11 @@ among b (c ∷ cs) = cond (eqb b c) true (among b cs)
 -- for another letter. In bytes: n 110, i 105, g 103, r 114, s 115, f 102, e 101, d 100, q 113, b 98, v 118, c 99, l 108, a 97, t 116.
 unfoldable pub fields_of_letter : ℕ → Option ℕ
 fields_of_letter b =
-    cond (among b (110 ∷ [])) (some 3)
-    (cond (among b (105 ∷ 101 ∷ 100 ∷ 113 ∷ [])) (some 2)
-    (cond (among b (103 ∷ 114 ∷ 115 ∷ 102 ∷ 98 ∷ 118 ∷ 97 ∷ [])) (some 1)
-    (cond (among b (99 ∷ 108 ∷ 116 ∷ [])) (some 0)
-    none)))
+    cond (among b (110 ∷ [])) (Some 3)
+    (cond (among b (105 ∷ 101 ∷ 100 ∷ 113 ∷ [])) (Some 2)
+    (cond (among b (103 ∷ 114 ∷ 115 ∷ 102 ∷ 98 ∷ 118 ∷ 97 ∷ [])) (Some 1)
+    (cond (among b (99 ∷ 108 ∷ 116 ∷ [])) (Some 0)
+    None)))
 
 -- a call: its letter and its fields
 pub record Line : Type 0 where
@@ -63,16 +62,16 @@ line b ns = record { letter = b; fields = ns }
 
 -- as many fields as the letter takes
 abbrev pub counted : ℕ → Option ℕ → Option (List ℕ) → Option Line
-counted b none ns = none
-counted b (some k) none = none
-counted b (some k) (some ns) = cond (eqb (length ns) k) (some (line b ns)) none
+counted b None ns = None
+counted b (Some k) None = None
+counted b (Some k) (Some ns) = cond (eqb (length ns) k) (Some (line b ns)) None
 
 -- "A line with another letter, a wrong count of fields, or a field not so written": none
 abbrev pub of_parts : List (List ℕ) → Option Line
-of_parts [] = none
-of_parts ([] ∷ ps) = none
+of_parts [] = None
+of_parts ([] ∷ ps) = None
 of_parts ((b ∷ []) ∷ ps) = counted b (fields_of_letter b) (numbers ps)
-of_parts ((b ∷ c ∷ bs) ∷ ps) = none
+of_parts ((b ∷ c ∷ bs) ∷ ps) = None
 
 -- "fields parted by tabs"
 unfoldable pub line_of : List ℕ → Option Line

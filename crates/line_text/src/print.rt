@@ -12,7 +12,8 @@ pub fn put_byte(out: &mut [u8], at: usize, byte: u8) -> usize
     at + 1
 }
 
-// A number's digits, the highest first: those of a tenth of it, then its last.
+// A number's digits, the highest first: those of a tenth of it, then its last. By hand, since the library's `write!` into a slice says
+// nothing of the bytes that it leaves there, and there is no heap for a text.
 fn put_digits(out: &mut [u8], at: usize, number: u64) -> usize
     requires { at + length (digits number) ≤ length out.old }
     ensures { Puts at (digits number) out.old result out.new }
@@ -48,10 +49,8 @@ pub fn put_values(out: &mut [u8], at: usize, values: &[u32], count: usize) -> us
     ensures { Puts at (tabbed (take count values.now)) out.old result out.new }
 {
     let mut to = at;
-    let mut i: usize = 0;
-    while i < count {
-        to = put_marked(out, to, b'\t', values[i] as u64);
-        i += 1;
+    for value in &values[..count] {
+        to = put_marked(out, to, b'\t', u64::from(*value));
     }
     to
 }
@@ -68,11 +67,9 @@ pub fn put_pairs(
     ensures { Puts at (paired (take count sequences.now) (take count values.now)) out.old result out.new }
 {
     let mut to = at;
-    let mut i: usize = 0;
-    while i < count {
-        let colon = put_marked(out, to, b'\t', sequences[i] as u64);
-        to = put_marked(out, colon, b':', values[i] as u64);
-        i += 1;
+    for (sequence, value) in sequences[..count].iter().zip(&values[..count]) {
+        let colon = put_marked(out, to, b'\t', u64::from(*sequence));
+        to = put_marked(out, colon, b':', u64::from(*value));
     }
     to
 }

@@ -1,8 +1,8 @@
 -- What a run keeps, from turn to turn. Assumes nothing.
 use mathlib.Core.Path.{◌≡◌, refl, sym, ap, subst, ◌∙◌}
-use mathlib.Core.Bool.{Bool, true, false, cond}
+use mathlib.Core.Bool.{Bool, true, false}
 use mathlib.Core.List.{List}
-use Prim.Native.Nat.{ℕ, ◌-◌, ◌≤◌, ◌<◌}
+use Prim.Native.Nat.{ℕ}
 use native.Mathlib.Omega.{arith}
 use lib.Dec.{ltb}
 use borrow.Author.Tests.{ltb-true, ltb-false}
@@ -35,16 +35,3 @@ written r m p out s m' g k l t = record {
   few = omega (arith, g.few, t.n);
   nothing_waits = ap (λ (q : Program). q.at) t.program;
 }
-
--- a refill adds no turns: by whether bytes came
-not-more-by : (r : Run) (input : List ℕ) (s : Run) (input' : List ℕ) → Refilled r input s input' → (some : Bool) → ltb 0 s.n ≡ some → s.turns ≤ r.turns
-not-more-by r input s input' t true l = omega (arith, t.came (ltb-true 0 s.n l))
-not-more-by r input s input' t false l = let none : s.n ≡ 0 = omega (arith, ltb-false 0 s.n l) in omega (arith, t.ended none)
-
--- a write takes one of the turns, or all
-fewer-by : (r s : Run) (failed : Bool) → 0 < r.turns → s.turns ≡ cond failed 0 (r.turns - 1) → s.turns < r.turns
-fewer-by r s true l e = omega (arith, e)
-fewer-by r s false l e = omega (arith, e)
-
-pub fewer : (r : Run) (input : List ℕ) (q : Run) (input' : List ℕ) (p : Program) (out : List ℕ) (s : Run) → Refilled r input q input' → 0 < q.turns → Written q p out s → s.turns < r.turns
-fewer r input q input' p out s t l w = omega (arith, not-more-by r input q input' t (ltb 0 q.n) refl, fewer-by q s s.failed l w.turns)

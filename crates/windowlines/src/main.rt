@@ -11,8 +11,8 @@ use line_program::notes::Notes;
 use run::{Run, finish, turn};
 use window::AdaptiveReceiverPacketWindow;
 
-// Turns until the input ends or a write fails. A proved loop has to end, and nothing says that the input does: turns are counted down,
-// from a number that no run uses up.
+// Turns until the input ends or a write fails. A proved loop has to end, and nothing says that the input does: so many turns that no run
+// uses them up.
 fn main(rt: HostRuntime) {
     let mut input = [0u8; 65536];
     let mut line = [0u8; 64];
@@ -36,9 +36,12 @@ fn main(rt: HostRuntime) {
         n: 0,
         told: false,
         failed: false,
-        turns: u64::MAX,
+        ended: false,
     };
-    while 0 < run.turns {
+    for _ in 0..u64::MAX {
+        if run.ended {
+            break;
+        }
         run = turn(
             rt,
             run,

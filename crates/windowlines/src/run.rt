@@ -1,5 +1,5 @@
 // Bytes moved: from standard input to the line program, and its output to standard output.
-ghost use Rattle.std.specs.Prelude.{◌≡◌, true, false, cond, ◌-◌, ◌≤◌, ◌<◌, length, take};
+ghost use Rattle.std.specs.Prelude.{◌≡◌, true, false, ◌≤◌, length, take};
 ghost use Rattle.window.specs.Memory.{memory};
 ghost use Rattle.window.specs.Lent.{left_in, lent_mut, lent};
 ghost use Rattle.call_base.specs.Answers.{state_of};
@@ -11,27 +11,15 @@ use line_program::answer::{BLOCK_LIST, PAGE_LIST};
 use line_program::{Program, take_last, take_lines};
 
 // The program, how many bytes of the input have come in the part that it stands in, whether the first line that is no call was told,
-// whether a write has failed, and how many turns are left: none once the input has ended or a write has failed.
+// whether a write has failed, and whether the run has ended: once the input has ended or a write has failed. Flags and no Result, since a
+// turn leaves a run that goes on from in each case.
 #[derive(Clone, Copy)]
 pub struct Run {
     pub program: Program,
     pub n: usize,
     pub told: bool,
     pub failed: bool,
-    pub turns: u64,
-}
-
-// The turns left after another, of which the write failed or not.
-fn turns_after(turns: u64, failed: bool) -> u64
-    ensures { result ≡ cond failed 0 (turns - 1) }
-{
-    if failed {
-        return 0;
-    }
-    if turns == 0 {
-        return 0;
-    }
-    turns - 1
+    pub ended: bool,
 }
 
 // The next part of the input, if the one before is used up.
@@ -49,12 +37,12 @@ fn refill(rt: HostRuntime, r: Run, input: &mut [u8; 65536]) -> Run
         n,
         told: r.told,
         failed: r.failed,
-        turns: 0,
+        ended: true,
     };
     if n == 0 {
         return run;
     }
-    run.turns = r.turns;
+    run.ended = r.ended;
     run
 }
 
@@ -72,7 +60,7 @@ fn put_out(rt: HostRuntime, r: Run, program: Program, out: &[u8]) -> Run
         n: r.n,
         told,
         failed,
-        turns: turns_after(r.turns, failed),
+        ended: r.ended || failed,
     }
 }
 
@@ -101,7 +89,7 @@ fn take_part(
     let n = r.n;
     take_lines(
         program,
-        &input[0..n],
+        &input[..n],
         line,
         sequences,
         values,
@@ -131,11 +119,10 @@ pub fn turn(
 ) -> Run
     requires { Going r (memory sequences.old values.old pages.old blocks.old) }
     ensures going { Going result (left_in (lent_mut sequences) (lent_mut values) (lent_mut pages) (lent_mut blocks)) }
-    ensures turns_lt_turns { 0 < r.turns → result.turns < r.turns }
     ensures turned { Turned r (lent_mut input) (lent_mut line) (lent_mut sequences) (lent_mut values) (lent_mut pages) (lent_mut blocks) (lent_mut out) result }
 {
     let run = refill(rt, r, input);
-    if run.turns == 0 {
+    if run.ended {
         return run;
     }
     let program = take_part(

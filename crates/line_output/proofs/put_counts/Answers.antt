@@ -19,6 +19,6 @@ put_marked-requires c =
 pub returns : goal.returns
 returns c =
     rw (counts-are c.args.w)
-    (put_then _ _ _ _ _ _ _ _ c.put_marked-first.ensures
-    (put_then _ _ _ _ _ _ _ _ c.put_marked-second.ensures
+    (put_then _ _ _ _ _ _ _ _ (put_count _ _ _ _ _ _ c.from.ensures c.put_marked-first.ensures)
+    (put_then _ _ _ _ _ _ _ _ (put_count _ _ _ _ _ _ c.from-2.ensures c.put_marked-second.ensures)
     (put_then _ _ _ _ _ _ _ _ c.put_marked-third.ensures (put_count _ _ _ _ _ _ c.demotions.ensures c.put_marked.ensures))))

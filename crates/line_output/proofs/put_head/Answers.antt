@@ -1,5 +1,4 @@
 use Rattle.std.proofs.Common.{arith}
-use Rattle.line_text.proofs.PrintLaws.{put_then}
 use Rattle.line_output.proofs.LineLaws.{answer-end}
 use Rattle.line_output.proofs.put_head.Goals as goal
 
@@ -9,9 +8,3 @@ put_counts-requires c =
     let t = c.put_byte-from in
     let l = c.put_byte-tab in
     omega (arith, c.requires, answer-end _ _ _ _ _ a.ensures, a.auto.out, t.ensures.end, t.auto.out, l.ensures.end, l.auto.out)
-
-pub returns : goal.returns
-returns c =
-    put_then _ _ _ _ _ _ _ _ c.put_byte-tab.ensures
-    (put_then _ _ _ _ _ _ _ _ c.put_byte-from.ensures
-    (put_then _ _ _ _ _ _ _ _ c.put_answer-counts.ensures c.put_counts.ensures))

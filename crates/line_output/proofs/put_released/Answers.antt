@@ -10,4 +10,4 @@ put_marked-requires c =
 
 pub returns : goal.returns
 unfolding answer_bytes
-returns c = put_then _ _ _ _ _ _ _ _ c.put_number-colon.ensures c.put_marked.ensures
+returns c = put_then _ _ _ _ _ _ _ _ (rw c.from.ensures at c.put_number-colon.ensures) (rw c.from-2.ensures at c.put_marked.ensures)

@@ -5,9 +5,3 @@ use Rattle.line_text.proofs.print.put_number.Goals as goal
 
 pub put_digits-requires : goal.put_digits-requires
 put_digits-requires c = omega (arith, c.requires, at-most-20 c.args.number)
-
-pub shape_of-out : goal.shape_of-out
-shape_of-out c = c.put_digits.auto.out
-
-pub returns : goal.returns
-returns c = c.put_digits.ensures

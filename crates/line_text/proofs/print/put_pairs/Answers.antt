@@ -1,36 +1,38 @@
-use mathlib.Core.Path.{◌≡◌, ◌∙◌}
-use native.Mathlib.Omega.{arith}
-use lib.ListN.{get_or}
-use Rattle.line_text.proofs.PrintLaws.{put_then, start, turn, paired_none, pairs_so_far, pairs-more, at-most-20, pair-few}
+use Rattle.std.proofs.Common.{◌∙◌, take, length, length-take-le, arith, rules}
+use Rattle.std.proofs.lemmas.List.{length_push}
+use Rattle.std.proofs.lemmas.Slice.Zip.{zip_turn, zip_end}
+use Rattle.line_text.proofs.PrintLaws.{start, turn, paired_none, pairs_so_far, pairs-more, pairs-all, pair-few, put_then, at-most-20}
 use Rattle.line_text.proofs.print.put_pairs.Goals as goal
 
-pub loop-i-init : goal.loop-i-init
-loop-i-init c = (omega arith, start _ 42 (pairs_so_far c.args.sequences.now c.args.values.now) _ paired_none)
+pub loop-sequence-init : goal.loop-sequence-init
+loop-sequence-init c = start _ 42 (pairs_so_far _ _) _ paired_none
+
+pub put_marked-colon-requires : goal.put_marked-colon-requires
+put_marked-colon-requires c =
+    let z = zip_turn (take c.args.count c.args.sequences.now) (take c.args.count c.args.values.now) c.loop-sequence.yielded c.into_iter-sequence-iterator.result
+    c.loop-sequence.sequence-iterator c.next.new.self _ (search rules) (search rules) c.loop-sequence.yielded_by _ c.in-Some.is c.next.ensures.steps in
+    omega (arith, length-take-le c.args.count c.args.sequences.now c.requires.0)
 
 pub put_marked-to-requires : goal.put_marked-to-requires
 put_marked-to-requires c =
-    let m = c.put_marked-colon in
-    let s = c.loop-i.invariant in
-    omega (arith, c.requires.2, c.loop-i-test.true, s.1.room, s.1.long, m.ensures.end, m.auto.out, at-most-20 (get_or c.args.sequences.now c.loop-i.i 0))
+    let z = zip_turn (take c.args.count c.args.sequences.now) (take c.args.count c.args.values.now) c.loop-sequence.yielded c.into_iter-sequence-iterator.result
+    c.loop-sequence.sequence-iterator c.next.new.self _ (search rules) (search rules) c.loop-sequence.yielded_by _ c.in-Some.is c.next.ensures.steps in
+    omega (arith, length-take-le c.args.count c.args.sequences.now c.requires.0, at-most-20 c.from.result)
 
-pub loop-i-preserved : goal.loop-i-preserved
-loop-i-preserved c =
+pub loop-sequence-preserved : goal.loop-sequence-preserved
+loop-sequence-preserved c =
+    let z = zip_turn (take c.args.count c.args.sequences.now) (take c.args.count c.args.values.now) c.loop-sequence.yielded c.into_iter-sequence-iterator.result
+    c.loop-sequence.sequence-iterator c.next.new.self _ (search rules) (search rules) c.loop-sequence.yielded_by _ c.in-Some.is c.next.ensures.steps in
+    let s = c.put_marked-colon in
     let v = c.put_marked-to in
-    let m = c.put_marked-colon in
-    let t = c.loop-i-test.true in
-    let s = c.loop-i.invariant in
-    let p = c.requires in
-    let a = c.args in (
-      omega (arith, t),
-      turn _ 42 (pairs_so_far a.sequences.now a.values.now) _ _ _ _ _ _ _ s.1 (pairs-more _ _ c.loop-i.i (omega (arith, t, p.0)) (omega (arith, t, p.1)))
-          (pair-few 9 _ 58 _) (put_then _ _ _ _ _ _ _ _ m.ensures v.ensures) (v.auto.out ∙ m.auto.out),
-    )
-
-pub shape_of-out : goal.shape_of-out
-shape_of-out c = c.loop-i.invariant.1.long
+    rw (length_push c.loop-sequence.yielded (c.in-Some.sequence, c.in-Some.value))
+    (turn _ 42 (pairs_so_far _ _) _ _ _ _ _ _ _ c.loop-sequence.invariant (pairs-more _ _ _ z.0 z.1) (pair-few 9 _ 58 _)
+    (put_then _ _ _ _ _ _ _ _ (rw (c.from.ensures ∙ z.2 0) at s.ensures) (rw (c.from-in-loop-sequence.ensures ∙ z.3 0) at v.ensures)) (v.auto.out ∙ s.auto.out))
 
 pub returns : goal.returns
 returns c =
-    let i = c.loop-i.invariant in
-    let e : c.loop-i.i ≡ c.args.count = omega (arith, i.0, c.loop-i-test.false) in
-    rw e at i.1.puts
+    let z = zip_end (take c.args.count c.args.sequences.now) (take c.args.count c.args.values.now) c.loop-sequence.yielded c.into_iter-sequence-iterator.result
+    c.loop-sequence.sequence-iterator c.next.new.self _ (search rules) (search rules) c.loop-sequence.yielded_by c.in-None.is c.next.ensures.steps in
+    let a = length-take-le c.args.count c.args.sequences.now c.requires.0 in
+    let b = length-take-le c.args.count c.args.values.now c.requires.1 in
+    rw (pairs-all (take c.args.count c.args.sequences.now) (take c.args.count c.args.values.now) (length c.loop-sequence.yielded) (omega arith) (omega arith)) at c.loop-sequence.invariant.puts

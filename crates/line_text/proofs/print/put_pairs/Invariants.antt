@@ -1,10 +1,7 @@
--- While the loop runs, the first i pairs are put. Assumes nothing.
-use Prim.Native.Nat.{◌-◌, ◌≤◌}
+-- While the loop runs, the pairs passed are put. Assumes nothing.
+use Rattle.std.proofs.Common.{length, take}
 use Rattle.line_text.proofs.PrintLaws.{PutSoFar, pairs_so_far}
 use Rattle.line_text.proofs.print.put_pairs.Given as goal
 
-abbrev pub invariant-loop-i : goal.invariant-loop-i
-invariant-loop-i l = (l.i ≤ l.count) × PutSoFar l.at 42 (pairs_so_far l.sequences l.values) l.initial.out l.i l.to l.out
-
-abbrev pub decreases-loop-i : goal.decreases-loop-i
-decreases-loop-i l = l.count - l.i
+abbrev pub invariant-loop-sequence : goal.invariant-loop-sequence
+invariant-loop-sequence l = PutSoFar l.at 42 (pairs_so_far (take l.count l.sequences) (take l.count l.values)) l.initial.out (length l.yielded) l.to l.out

@@ -1,10 +1,7 @@
--- While the loop runs, the first i values are put. Assumes nothing.
-use Prim.Native.Nat.{◌-◌, ◌≤◌}
+-- While the loop runs, the values passed are put. Assumes nothing.
+use Rattle.std.proofs.Common.{take}
 use Rattle.line_text.proofs.PrintLaws.{PutSoFar, values_so_far}
 use Rattle.line_text.proofs.print.put_values.Given as goal
 
-abbrev pub invariant-loop-i : goal.invariant-loop-i
-invariant-loop-i l = (l.i ≤ l.count) × PutSoFar l.at 21 (values_so_far l.values) l.initial.out l.i l.to l.out
-
-abbrev pub decreases-loop-i : goal.decreases-loop-i
-decreases-loop-i l = l.count - l.i
+abbrev pub invariant-loop-value : goal.invariant-loop-value
+invariant-loop-value l = PutSoFar l.at 21 (values_so_far (take l.count l.values)) l.initial.out l.value-index l.to l.out
