@@ -14,9 +14,9 @@ FORMS = [
     ('that begins at 64 × page', 'call_point/src/remove.rt', 'remove_in_page', [r'let from = PAGE_SLOTS \* page;', r'&mut sequences\[from\.\.to\]', r'&mut values\[from\.\.to\]']),
     ('that begins at 64 × page', 'call_point/src/insert.rt', 'insert_in_page', [r'let from = PAGE_SLOTS \* page;', r'&mut sequences\[from\.\.to\]', r'&mut values\[from\.\.to\]']),
     ('the walk over pages yields the first live sequence, or none', 'block_search/src/walk.rt', 'find_live', [r'= loop \{', r'break Ok\(Some\(', r'break Ok\(None\);']),
-    ('wrapping_sub on sequences stays', 'call_base/src/lib.rt', 'distance', [r'std::num::wrapping_sub_u32\(sequence, base\)']),
+    ('wrapping_sub on sequences stays', 'call_base/src/lib.rt', 'distance', [r'sequence\.wrapping_sub\(base\)']),
     ('wrapping_sub on sequences stays', 'call_base/src/lib.rt', 'range_count', [r'distance\(first, last\) \+ 1']),
-    ('wrapping_sub on sequences stays', 'call_read/src/lib.rt', 'first_from', [r'std::num::wrapping_sub_u32\(sequence, 1\)']),
+    ('wrapping_sub on sequences stays', 'call_read/src/lib.rt', 'first_from', [r'sequence\.wrapping_sub\(1\)']),
     ('Command letters', 'line_text/src/lib.rt', 'field_count', [r"match letter \{", r"b'n' => Some\(3\)", r"b'i' \| b'e' \| b'd' \| b'q' => Some\(2\)"]),
     ('the units used are carried in the answer', 'call_retire/src/release_retired.rt', 'release_retired', [r'Answer::Released\(visited\.count as u32, visited\.units as u32\)']),
     ('belong to the window as its own constants', 'window/src/lib.rt', 'impl AdaptiveReceiverPacketWindow', [
