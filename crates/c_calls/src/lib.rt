@@ -7,10 +7,8 @@ pub mod version;
 
 ghost use Rattle.std.specs.Prelude.{◌≡◌};
 ghost use Rattle.window.specs.Lent.{lent, lent_mut};
-ghost use Rattle.window.specs.New.{fresh, answer_of as new_answer_of};
 ghost use Rattle.model.specs.Calls.{get as get_of, successor_after, first_from, iter as iter_of, insert as insert_of, exchange as exchange_of, remove as remove_of, ask};
-ghost use Rattle.call_base.specs.Answers.{answer_of};
-ghost use Rattle.c_calls.specs.Numbers.{numbered as numbered_of, numbers_of, SameStep, numbers_of_new, NumbersMeetBy, NumbersMeetInto, CreatesBy};
+ghost use Rattle.c_calls.specs.Numbers.{numbered as numbered_of, NumbersMeetBy, NumbersMeetInto, CreatesBy};
 
 use call_point::exchange::exchange;
 use call_point::insert::insert;
@@ -94,10 +92,10 @@ impl From<Step> for NumberedStep {
 
 // What new gives in numbers; a refusal comes with a header of zeros, with which every call is refused 6.
 impl From<Result<AdaptiveReceiverPacketWindow, Refusal>> for NumberedStep {
-    ghost use Rattle.window.specs.New.{answer_of};
+    ghost use Rattle.window.specs.New.{answer_of as new_answer_of};
     ghost use Rattle.c_calls.specs.Numbers.{numbers_of_new};
 
-    ghost from_gives = { λ made result. result ≡ numbers_of_new (answer_of made) };
+    ghost from_gives = { λ made result. result ≡ numbers_of_new (new_answer_of made) };
 
     fn from(made: Result<AdaptiveReceiverPacketWindow, Refusal>) -> NumberedStep {
         match made {

@@ -61,7 +61,7 @@ release_retired-visited-requires c =
     let at = (goal.at.release_retired-visited-requires c).In-Ok in
     let f = fit at in
     record {
-      window_size_bound = (f.within.size_high, omega (arith, f.within.n_high), few at, omega (arith, long at, few at));
+      window_size_bound = (f.within.size_high, omega (arith, f.within.n_high), omega (arith, few at), omega (arith, long at, few at));
       window_size_in_bounds = (f.long.sequences_long, f.long.values_long, f.long.pages_long, f.long.blocks_long);
     }
 

@@ -1,2 +1,0 @@
--- What a call meets, it meets in numbers.
-pub mod NumberLaws

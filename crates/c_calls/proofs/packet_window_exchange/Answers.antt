@@ -1,7 +1,0 @@
-use Rattle.c_calls.proofs.NumberLaws.{in-numbers}
-use Rattle.c_calls.proofs.packet_window_exchange.Goals as goal
-
-pub returns : goal.returns
-returns c =
-    let t = c.exchange in
-    in-numbers _ _ _ t.result c.in_numbers.result _ _ c.in_numbers.ensures t.ensures

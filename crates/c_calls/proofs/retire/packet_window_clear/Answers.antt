@@ -1,7 +1,0 @@
-use Rattle.c_calls.proofs.NumberLaws.{in-numbers}
-use Rattle.c_calls.proofs.retire.packet_window_clear.Goals as goal
-
-pub returns : goal.returns
-returns c =
-    let t = c.clear in
-    in-numbers _ _ _ t.result c.in_numbers.result _ _ c.in_numbers.ensures t.ensures
