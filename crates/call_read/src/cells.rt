@@ -92,10 +92,10 @@ fn walk_blocks(
     let last = (end - 1) / PAGE_SLOTS / 64;
     let mut block = start / PAGE_SLOTS / 64;
     let mut entered = own;
-    let cell = loop {
+    let cell = 'walk: loop {
         let cell = cell_in_block(pages, entered.live, block, start, end);
         if cell.is_some() || last <= block {
-            break cell;
+            break 'walk cell;
         }
         block = block + 1;
         entered = enter_block(blocks, retired_blocks, block, entered.reads);

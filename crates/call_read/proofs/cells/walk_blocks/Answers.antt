@@ -9,21 +9,21 @@ use Rattle.call_read.proofs.CellLaws.{block-ends}
 use Rattle.call_read.proofs.cells.walk_blocks.Goals as goal
 use Rattle.call_read.proofs.cells.walk_blocks.Goals.{After-cell_in_block-cell}
 
-reads-are : (c : After-cell_in_block-cell) → c.loop-cell.entered.reads ≡ c.loop-cell.block - c.args.start / 4096 + 1
-reads-are c = ap (λ (x : Entered). x.reads) c.loop-cell.invariant.2
+reads-are : (c : After-cell_in_block-cell) → c.walk.entered.reads ≡ c.walk.block - c.args.start / 4096 + 1
+reads-are c = ap (λ (x : Entered). x.reads) c.walk.invariant.2
 
 cell-is : (c : After-cell_in_block-cell) →
     let s = c.args in
-    unwrap_or c.cell_in_block-cell.result s.end ≡ cell_in_block_of s.pages.now (selected_pages_of s.blocks.now s.w.retired_blocks c.loop-cell.block Live) c.loop-cell.block s.start s.end
+    unwrap_or c.cell_in_block-cell.result s.end ≡ cell_in_block_of s.pages.now (selected_pages_of s.blocks.now s.w.retired_blocks c.walk.block Live) c.walk.block s.start s.end
 cell-is c =
     let s = c.args in
-    c.cell_in_block-cell.ensures.first ∙ ap (λ (x : Entered). cell_in_block_of s.pages.now x.live c.loop-cell.block s.start s.end) c.loop-cell.invariant.2
+    c.cell_in_block-cell.ensures.first ∙ ap (λ (x : Entered). cell_in_block_of s.pages.now x.live c.walk.block s.start s.end) c.walk.invariant.2
 
 pub returns : goal.returns
 returns c =
     let s = c.args in
     let here = (goal.at.returns c).After-cell_in_block-cell in
-    let last : is_some c.cell_in_block-cell.result ≡ false → (s.end - 1) / 4096 ≡ c.loop-cell.block =
-    λ n. ⊎_elim (λ t. absurd (true≢false (sym t ∙ c.is_some.ensures ∙ n))) (λ w. omega (arith, w.1, c.loop-cell.invariant.1)) c.then-is_some.either in
+    let last : is_some c.cell_in_block-cell.result ≡ false → (s.end - 1) / 4096 ≡ c.walk.block =
+    λ n. ⊎_elim (λ t. absurd (true≢false (sym t ∙ c.is_some.ensures ∙ n))) (λ w. omega (arith, w.1, c.walk.invariant.1)) c.then-is_some.either in
     subst (λ (k : ℕ). FindsCell s.w s.pages.now s.blocks.now s.start s.end (record { cell = c.cell_in_block-cell.result; reads = k })) (sym (reads-are here))
-    (block-ends s.w _ _ _ _ c.requires.window_size_bound.1 c.requires.window_size_bound.2 _ c.loop-cell.invariant.3 _ c.cell_in_block-cell.ensures.within (cell-is here) last)
+    (block-ends s.w _ _ _ _ c.requires.window_size_bound.1 c.requires.window_size_bound.2 _ c.walk.invariant.3 _ c.cell_in_block-cell.ensures.within (cell-is here) last)

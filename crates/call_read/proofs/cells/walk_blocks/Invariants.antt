@@ -5,10 +5,10 @@ use Rattle.call_read.specs.Promises.{entered_at}
 use Rattle.call_read.proofs.CellLaws.{NoneBefore}
 use Rattle.call_read.proofs.cells.walk_blocks.Given as goal
 
-abbrev pub invariant-loop-cell : goal.invariant-loop-cell
-invariant-loop-cell l =
+abbrev pub invariant-walk : goal.invariant-walk
+invariant-walk l =
     (l.start / 4096 ≤ l.block) × (l.block ≤ (l.end - 1) / 4096) × (l.entered ≡ entered_at l.blocks l.retired_blocks l.block (l.block - l.start / 4096))
     × NoneBefore l.pages l.blocks l.retired_blocks l.start l.end l.block
 
-abbrev pub decreases-loop-cell : goal.decreases-loop-cell
-decreases-loop-cell l = l.last - l.block
+abbrev pub decreases-walk : goal.decreases-walk
+decreases-walk l = l.last - l.block
