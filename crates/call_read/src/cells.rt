@@ -53,7 +53,8 @@ fn cell_in_page(pages: &[u64], live: u64, page: usize, from: usize) -> Option<us
 
 // The first cell in use from `start` up to `end` of the live pages of block `block`. No other page is read.
 fn cell_in_block(pages: &[u64], live: u64, block: usize, start: usize, end: usize) -> Option<usize>
-    requires { (start < end) × (end ≤ 65536) × (start / 4096 ≤ block) × (block ≤ (end - 1) / 4096) × (words_per_page * ((end + 63) / 64) ≤ length pages.now) }
+    requires { (start < end) × (end ≤ 65536) × (start / 4096 ≤ block) × (block ≤ (end - 1) / 4096)
+        × (words_per_page * ((end + 63) / 64) ≤ length pages.now) }
     ensures within { IfSome result (λ q. q < end) }
     ensures first { unwrap_or result end ≡ cell_in_block_of pages.now live block start end }
 {
@@ -84,7 +85,8 @@ fn walk_blocks(
     own: Entered,
 ) -> NextCell
     requires window_size_bound { (w.window_size ≤ 65536) × (start < end) × (end ≡ capacity w.window_size) }
-    requires window_size_in_bounds { (words_per_page * page_count_of w.window_size ≤ length pages.now) × (words_per_block * block_count_of w.window_size ≤ length blocks.now) }
+    requires window_size_in_bounds { (words_per_page * page_count_of w.window_size ≤ length pages.now)
+        × (words_per_block * block_count_of w.window_size ≤ length blocks.now) }
     requires own_value { own ≡ entered_at blocks.now w.retired_blocks (start / 4096) 0 }
     ensures { FindsCell w pages.now blocks.now start end result }
 {
@@ -117,7 +119,8 @@ pub fn next_cell(
     end: usize,
 ) -> NextCell
     requires window_size_bound { (w.window_size ≤ 65536) × (start < end) × (end ≡ capacity w.window_size) }
-    requires window_size_in_bounds { (words_per_page * page_count_of w.window_size ≤ length pages.now) × (words_per_block * block_count_of w.window_size ≤ length blocks.now) }
+    requires window_size_in_bounds { (words_per_page * page_count_of w.window_size ≤ length pages.now)
+        × (words_per_block * block_count_of w.window_size ≤ length blocks.now) }
     ensures { FindsCell w pages.now blocks.now start end result }
 {
     let page = start / PAGE_SLOTS;

@@ -20,7 +20,9 @@ pub fn find_round(
     sequence: u32,
 ) -> Result<Answer, Refusal>
     requires window_size_bound { (w.window_size ≤ 65536) × (w.n < 64) }
-    requires window_size_in_bounds { (capacity_of w.window_size ≤ length sequences.now) × (words_per_page * page_count_of w.window_size ≤ length pages.now) × (words_per_block * block_count_of w.window_size ≤ length blocks.now) }
+    requires window_size_in_bounds { (capacity_of w.window_size ≤ length sequences.now)
+        × (words_per_page * page_count_of w.window_size ≤ length pages.now)
+        × (words_per_block * block_count_of w.window_size ≤ length blocks.now) }
     ensures { FindsRound w sequences.now pages.now blocks.now sequence (answer_of result) }
 {
     let end = capacity(w.window_size);

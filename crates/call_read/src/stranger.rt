@@ -37,7 +37,9 @@ fn find_stranger(
     count: u32,
 ) -> Result<Option<u32>, Refusal>
     requires window_size_bound { (w.window_size ≤ 65536) × (w.n < 64) × (start < end) × (end ≤ capacity_of w.window_size) }
-    requires window_size_in_bounds { (capacity_of w.window_size ≤ length sequences.now) × (words_per_page * page_count_of w.window_size ≤ length pages.now) × (words_per_block * block_count_of w.window_size ≤ length blocks.now) }
+    requires window_size_in_bounds { (capacity_of w.window_size ≤ length sequences.now)
+        × (words_per_page * page_count_of w.window_size ≤ length pages.now)
+        × (words_per_block * block_count_of w.window_size ≤ length blocks.now) }
     ensures { FindsStranger w sequences.now pages.now blocks.now start end first count result }
 {
     let mut from = start;
@@ -68,7 +70,9 @@ fn find_in_range(
     count: u32,
 ) -> Result<Option<u32>, Refusal>
     requires window_size_bound { (w.window_size ≤ 65536) × (w.n < 64) × (0 < count) × (count ≤ capacity_of w.window_size) }
-    requires window_size_in_bounds { (capacity_of w.window_size ≤ length sequences.now) × (words_per_page * page_count_of w.window_size ≤ length pages.now) × (words_per_block * block_count_of w.window_size ≤ length blocks.now) }
+    requires window_size_in_bounds { (capacity_of w.window_size ≤ length sequences.now)
+        × (words_per_page * page_count_of w.window_size ≤ length pages.now)
+        × (words_per_block * block_count_of w.window_size ≤ length blocks.now) }
     ensures { FindsInRange w sequences.now pages.now blocks.now first count result }
 {
     let end = capacity(w.window_size);
