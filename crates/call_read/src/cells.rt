@@ -94,6 +94,7 @@ fn walk_blocks(
     let last = (end - 1) / PAGE_SLOTS / 64;
     let mut block = start / PAGE_SLOTS / 64;
     let mut entered = own;
+    // No `for` over the blocks: the first is entered already, and the next one, which is a read, only where this one has no cell.
     let cell = 'walk: loop {
         let cell = cell_in_block(pages, entered.live, block, start, end);
         if cell.is_some() || last <= block {
