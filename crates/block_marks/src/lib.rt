@@ -28,7 +28,7 @@ pub struct Change {
     pub block: BlockWords,
 }
 
-// The words of one block.
+// The words of one block. (A page's words are read by page_base: over a trait the two would be no plainer than with their names.)
 #[tactic(auto, unfolding(crate::specs::Blocks::block_words_at))]
 pub fn block_words(blocks: &[u64], block: usize) -> BlockWords
     requires { (block < 16) × RowIn words_per_block block blocks.now }

@@ -6,7 +6,8 @@ ghost use Rattle.block_retire.specs.Promises.{RetiresFirst, RetiresLast, Retires
 use crate::{retire_blocks, retire_pages_in_block};
 use window::AdaptiveReceiverPacketWindow;
 
-// The pages from `from` up to the end of its block, unless they are the whole block.
+// The pages from `from` up to the end of its block, unless they are the whole block. (No one function with retire_last: each has a
+// condition, a mask and a definition of its own.)
 fn retire_first(
     w: AdaptiveReceiverPacketWindow,
     pages: &[u64],

@@ -34,7 +34,7 @@ pub fn refuse(w: AdaptiveReceiverPacketWindow, why: Refusal) -> Step
     reply(w, Err(why))
 }
 
-// The answer of a call for what a search gave.
+// The answer of a call for what a search gave. (No `From`: that would say that any number is an answer.)
 pub fn read_answer(read: Option<u32>) -> Answer
     ensures { given_of result ≡ read_answer_of read }
 {

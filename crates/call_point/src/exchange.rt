@@ -13,7 +13,8 @@ use window::AdaptiveReceiverPacketWindow;
 use window::answers::{Answer, Step};
 use window::memory::{PAGE_SLOTS, position};
 
-// The value of the sequence in page `page`, which has these words, and another put in its place.
+// The value of the sequence in page `page`, which has these words, and another put in its place. The page's values are cut out here
+// (page_base says why).
 fn exchange_in_page(
     sequences: &[u32],
     values: &mut [u32],

@@ -28,7 +28,7 @@ pub struct Put {
     pub answer: Result<Answer, Refusal>,
 }
 
-// The sequence and the value into page `page`, which has these words.
+// The sequence and the value into page `page`, which has these words. Its cells are cut out here (page_base says why).
 fn insert_in_page(
     sequences: &mut [u32],
     values: &mut [u32],

@@ -18,7 +18,7 @@ use window::answers::{Answer, Step};
 use window::memory::{PAGE_SLOTS, position};
 use window::{AdaptiveReceiverPacketWindow, Cause};
 
-// The value of the sequence taken out of page `page`, which has these words.
+// The value of the sequence taken out of page `page`, which has these words. Its cells are cut out here (page_base says why).
 fn remove_in_page(
     sequences: &mut [u32],
     values: &mut [u32],

@@ -1,4 +1,5 @@
-// The call that a line makes, by its letter and fields; list.rt has l.
+// The call that a line makes, by its letter and fields; list.rt has l. (A match on the letter, which is the file's format: a table of
+// functions would be searched for the same letters.)
 #![tactic(auto)]
 
 pub mod list;

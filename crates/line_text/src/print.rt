@@ -1,4 +1,5 @@
-// Numbers put into a buffer of bytes, from a place on. Each function gives the place after what it put.
+// Numbers put into a buffer of bytes, from a place on. Each function gives the place after what it put. (No `write!`: what is put is
+// promised byte for byte, of which std's `Write` for a slice says nothing, and there is no heap for a String.)
 ghost use Rattle.std.specs.Prelude.{[], ◌∷◌, ◌+◌, ◌*◌, ◌≤◌, length, take};
 ghost use Rattle.line_text.specs.Output.{digits, paired, tabbed};
 ghost use Rattle.line_text.specs.PrintContracts.{Puts};

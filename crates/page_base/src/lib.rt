@@ -32,7 +32,7 @@ pub struct Left {
     pub demoted: bool,
 }
 
-// The words of one page.
+// The words of one page. (A block's words are read by block_marks: over a trait the two would be no plainer than with their names.)
 pub fn page_words(pages: &[u64], page: usize) -> PageWords
     requires { (page < 1024) × RowIn words_per_page page pages.now }
     ensures { result ≡ words_at pages.now page }

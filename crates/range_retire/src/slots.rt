@@ -46,7 +46,8 @@ fn drain_slots(
     )
 }
 
-// Page `page`, left with these words after its last value was taken out: emptied, demoted, or as it is.
+// Page `page`, left with these words after its last value was taken out: emptied, demoted, or as it is. Its cells are cut out here
+// (page_base says why).
 fn settle_page(
     sequences: &mut [u32],
     values: &mut [u32],

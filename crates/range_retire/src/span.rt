@@ -17,7 +17,8 @@ use window::memory::PAGE_SLOTS;
 // The last position of a page.
 const LAST_SLOT: usize = PAGE_SLOTS - 1;
 
-// The first partial page of a stretch that begins at `start`.
+// The first partial page of a stretch that begins at `start`. (No one function with retire_tail: each has a condition, a mask and a
+// definition of its own.)
 fn retire_head(
     w: AdaptiveReceiverPacketWindow,
     sequences: &mut [u32],

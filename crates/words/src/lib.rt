@@ -37,7 +37,7 @@ pub fn span(from: usize, to: usize) -> u64
     (u64::MAX >> (64 - (to - from))) << from
 }
 
-// The lowest set bit of w at or above k; 64 if there is none.
+// The lowest set bit of w at or above k; 64 if there is none: a number and no Option, as of trailing_zeros, since callers use it as an end.
 pub fn lowest(w: u64, k: usize) -> usize
     requires { k < 64 }
     ensures { result ≡ lowest_of w k }
