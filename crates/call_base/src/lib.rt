@@ -4,6 +4,7 @@
 #![tactic(auto)]
 
 pub mod admits;
+pub mod reading;
 
 ghost use Rattle.std.specs.Prelude.{◌≡◌, ◌+◌, ◌/◌, ◌<◌};
 ghost use Rattle.window.specs.Memory.{words_per_block, RowIn};
