@@ -36,7 +36,8 @@ fn find_stranger(
     count: u32,
 ) -> Result<Option<u32>, Refusal>
     requires { (start < end) × (end ≤ capacity_of window.header.window_size) }
-    ensures { FindsStranger window.entry.header window.entry.sequences.now window.entry.pages.now window.entry.blocks.now start end first count result }
+    ensures { FindsStranger window.entry.header window.entry.sequences.now window.entry.pages.now window.entry.blocks.now
+        start end first count result }
 {
     let mut from = start;
     while from < end {
@@ -67,7 +68,8 @@ fn find_stranger(
 #[tactic(auto, using(crate::proofs::RangeStrangerLaws::ranging))]
 fn find_in_range(window: WindowRef, first: u32, count: u32) -> Result<Option<u32>, Refusal>
     requires { (0 < count) × (count ≤ capacity_of window.header.window_size) }
-    ensures { FindsInRange window.entry.header window.entry.sequences.now window.entry.pages.now window.entry.blocks.now first count result }
+    ensures { FindsInRange window.entry.header window.entry.sequences.now window.entry.pages.now window.entry.blocks.now
+        first count result }
 {
     let end = capacity(window.header.window_size);
     let start = position(window.header.window_size, first);
