@@ -9,9 +9,8 @@ use Rattle.window.specs.declared.refusals.Refusal.{Refusal}
 use Rattle.window.specs.Refusals.{fits_with_list_of, Fits}
 use Rattle.window.proofs.RefusalLaws.{fits-is}
 use Rattle.model.specs.Calls.{Query, ask, stranger}
-use Rattle.model.specs.Roles as model
 use Rattle.model.specs.Roles.{asked_of}
-use Rattle.model.specs.Table.{range_count_of}
+use Rattle.model.specs.Table.{first, range_count_of}
 use Rattle.model.specs.Steps.{known_by}
 use Rattle.model.specs.Contract.{State, Meets}
 use Rattle.model.proofs.RefusalLaws.{tested}
@@ -21,10 +20,10 @@ use Rattle.call_base.specs.Promises.{Tells}
 use Rattle.call_base.proofs.MeetsLaws.{asked-meets, asked-arguments}
 use Rattle.call_base.proofs.RangeLaws.{count-taken}
 
--- with no return list, the places named for it are enough
-pub admission-fits : (w : AdaptiveReceiverPacketWindow) (s v p b : ℕ) (a : model.Arguments) → 0 ≡ admission w s v p b 384 a → Fits w s v p b
+-- with no return list, the places named for it are enough; `rest` is what the arguments are refused with
+pub admission-fits : (w : AdaptiveReceiverPacketWindow) (s v p b rest : ℕ) → 0 ≡ first 6 (fits_with_list_of w s v p b 384) rest → Fits w s v p b
 unfolding fits_with_list_of
-admission-fits w s v p b a pass = fits-is w s v p b (tested 6 (fits_with_list_of w s v p b 384) _ (λ k. omega arith) (sym pass)).0
+admission-fits w s v p b rest pass = fits-is w s v p b (tested 6 (fits_with_list_of w s v p b 384) rest (λ k. omega arith) (sym pass)).0
 
 -- what the tactics know of a call that is admitted
 pub ruleset admitting = (admission-fits)
@@ -37,8 +36,8 @@ module _ (u v : State) (given : v ≡ u) where
   reading-meets q pass a x e other tells = asked-meets q u pass a x e other (subst (λ (s : State). Tells q s a) given tells)
 
   -- a range that is admitted has at most window_size positions
-  pub range-lent : (first last : ℕ)
-      → 0 ≡ admission u.header (length u.memory.sequences) (length u.memory.values) (length u.memory.pages) (length u.memory.blocks) 384 (asked_of (stranger first last)).arguments
-      → range_count_of first last ≤ v.header.window_size
-  range-lent first last pass =
-      rw (ap (λ (s : State). s.header.window_size) given) (count-taken (known_by u.header) first last (asked-arguments (stranger first last) u pass))
+  pub range-lent : (a b : ℕ)
+      → 0 ≡ admission u.header (length u.memory.sequences) (length u.memory.values) (length u.memory.pages) (length u.memory.blocks) 384 (asked_of (stranger a b)).arguments
+      → range_count_of a b ≤ v.header.window_size
+  range-lent a b pass =
+      rw (ap (λ (s : State). s.header.window_size) given) (count-taken (known_by u.header) a b (asked-arguments (stranger a b) u pass))
