@@ -6,3 +6,4 @@ pub mod ReachLaws
 pub mod RangeLaws
 pub mod RetiredLaws
 pub mod ArgumentLaws
+pub mod ReadingLaws

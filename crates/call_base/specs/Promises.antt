@@ -56,9 +56,6 @@ AdmittedInto c w ss vs pages blocks l r =
 abbrev pub Tells : Query → State → Result Answer Refusal → Type 0
 Tells q u a = Sound (window_of u) → answer_of a ≡ window_answer (window_of u) q
 
-abbrev pub TellsBy : Query → AdaptiveReceiverPacketWindow → (sequences values pages blocks : Lent) → Result Answer Refusal → Type 0
-TellsBy q w ss vs pages blocks a = Tells q (state_of w (found_in ss vs pages blocks)) a
-
 -- a step on a window, done on state u, with at most 384 values in the return list from its beginning on; never refusal 4
 pub record Fills (step : Window → Effect) (u : State) (l : List ℕ) (r : Left) : Type 0 where
   pub wrote : Wrote 0 r.count l r.list

@@ -1,11 +1,15 @@
 // The refusals that are decided before the window is looked at, in the papers' order: the header and the lists, then the arguments.
-ghost use Rattle.std.specs.Prelude.{◌≡◌};
-ghost use Rattle.window.specs.Refusals.{verdict_number};
+ghost use Rattle.std.specs.Prelude.{◌≡◌, IfErr, IfOk, length};
+ghost use Rattle.window.specs.Refusals.{verdict_number, refusal_number_of};
+ghost use Rattle.window.specs.Memory.{memory};
 ghost use Rattle.model.specs.Table.{limit_refusal_of, are_wire_numbers_of, refused_for_of};
 ghost use Rattle.model.specs.Steps.{known_by};
 ghost use Rattle.call_base.specs.Admits.{arguments_of, admission};
+ghost use Rattle.call_base.specs.Answers.{state_of};
+ghost use Rattle.call_base.specs.Reading.{state_in};
 
 use crate::range_count;
+use crate::reading::WindowRef;
 use window::AdaptiveReceiverPacketWindow;
 use window::refusals::{Refusal, fits_with_list, is_wire_number};
 
@@ -89,4 +93,38 @@ pub fn admits(
         return Err(Refusal::ShortMemory);
     }
     refused_for(w, arguments)
+}
+
+// The header and the lists of a call with these arguments, for reading, unless the call is refused.
+#[tactic(auto, using(crate::proofs::ReadingLaws::admitting))]
+pub fn admit_reading<'a>(
+    w: AdaptiveReceiverPacketWindow,
+    sequences: &'a [u32],
+    values: &'a [u32],
+    pages: &'a [u64],
+    blocks: &'a [u64],
+    arguments: Arguments,
+) -> Result<WindowRef<'a>, Refusal>
+    ensures given { IfOk result (λ r. state_in r ≡ state_of w (memory sequences.now values.now pages.now blocks.now)) }
+    ensures admitted { IfOk result (λ r.
+        0 ≡ admission w (length sequences.now) (length values.now) (length pages.now) (length blocks.now) 384 (arguments_of arguments)) }
+    ensures refused { IfErr result (λ why. refusal_number_of why
+        ≡ admission w (length sequences.now) (length values.now) (length pages.now) (length blocks.now) 384 (arguments_of arguments)) }
+{
+    admits(
+        w,
+        sequences.len(),
+        values.len(),
+        pages.len(),
+        blocks.len(),
+        NO_LIST,
+        arguments,
+    )?;
+    Ok(WindowRef {
+        header: w,
+        sequences,
+        values,
+        pages,
+        blocks,
+    })
 }

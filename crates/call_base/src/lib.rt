@@ -1,9 +1,9 @@
 // What the calls share: an outcome with nothing returned, whether a page's values are reachable, sequences and distances, and the
-// count of a range; admits.rt
-// has the refusals.
+// count of a range; admits.rt has the refusals, reading.rt what a reading call is lent.
 #![tactic(auto)]
 
 pub mod admits;
+pub mod reading;
 
 ghost use Rattle.std.specs.Prelude.{◌≡◌, ◌+◌, ◌/◌, ◌<◌};
 ghost use Rattle.window.specs.Memory.{words_per_block, RowIn};

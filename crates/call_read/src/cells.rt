@@ -111,6 +111,7 @@ fn walk_blocks(
 
 // The first reachable cell from `start` up to `end`, which is the capacity. Most often it is in the page
 // of `start`, which is looked at first.
+// No `WindowRef`: this is public and asks less than one, nothing of the lists of sequences and values and less of the header.
 #[tactic(auto, using(crate::proofs::CellLaws::walking))]
 pub fn next_cell(
     w: AdaptiveReceiverPacketWindow,

@@ -7,12 +7,14 @@ pub mod round;
 pub mod stranger;
 
 ghost use Rattle.std.specs.Prelude.{Ok};
-ghost use Rattle.window.specs.Lent.{ListsFit, lent};
+ghost use Rattle.window.specs.Lent.{lent};
 ghost use Rattle.model.specs.Calls.{get as get_of, successor_after, first_from, iter as iter_of, ask};
 ghost use Rattle.call_base.specs.Answers.{MeetsBy};
-ghost use Rattle.call_base.specs.Promises.{TellsBy};
+ghost use Rattle.call_base.specs.Promises.{Tells};
+ghost use Rattle.call_base.specs.Reading.{state_in};
 
-use call_base::admits::{Arguments, NO_LIST, admits};
+use call_base::admits::{Arguments, admit_reading};
+use call_base::reading::WindowRef;
 use call_base::{reachable, read_answer, refuse, reply};
 use cells::next_cell;
 use page_base::{page_cells, page_words};
@@ -23,26 +25,18 @@ use window::memory::{PAGE_SLOTS, capacity, position};
 
 // The value of the sequence.
 #[tactic(auto, using(crate::proofs::GetLaws::reading))]
-pub fn value_of(
-    w: AdaptiveReceiverPacketWindow,
-    sequences: &[u32],
-    values: &[u32],
-    pages: &[u64],
-    blocks: &[u64],
-    sequence: u32,
-) -> Answer
-    requires { ListsFit w sequences.now values.now pages.now blocks.now }
-    ensures { TellsBy (get_of sequence) w (lent sequences) (lent values) (lent pages) (lent blocks) (Ok result) }
+pub fn value_of(window: WindowRef, sequence: u32) -> Answer
+    ensures { Tells (get_of sequence) (state_in window.entry) (Ok result) }
 {
-    let n = w.n as usize;
-    let page = position(w.window_size, sequence) / PAGE_SLOTS;
-    if !reachable(w, blocks, page) {
+    let n = window.header.n as usize;
+    let page = position(window.header.window_size, sequence) / PAGE_SLOTS;
+    if !reachable(window.header, window.blocks, page) {
         return Answer::Absent;
     }
-    let words = page_words(pages, page);
+    let words = page_words(window.pages, page);
     let read = page_base::find::get(
-        page_cells(sequences, page),
-        page_cells(values, page),
+        page_cells(window.sequences, page),
+        page_cells(window.values, page),
         words,
         n,
         sequence,
@@ -61,21 +55,15 @@ pub fn get(
 ) -> Step
     ensures { MeetsBy (ask (get_of sequence)) w (lent sequences) (lent values) (lent pages) (lent blocks) result }
 {
-    match admits(
+    match admit_reading(
         w,
-        sequences.len(),
-        values.len(),
-        pages.len(),
-        blocks.len(),
-        NO_LIST,
+        sequences,
+        values,
+        pages,
+        blocks,
         Arguments::Sequence(sequence),
     ) {
-        Ok(()) => {
-            reply(
-                w,
-                Ok(value_of(w, sequences, values, pages, blocks, sequence)),
-            )
-        }
+        Ok(window) => reply(w, Ok(value_of(window, sequence))),
         Err(why) => refuse(w, why),
     }
 }
@@ -91,16 +79,24 @@ pub fn successor_after(
 ) -> Step
     ensures { MeetsBy (ask (successor_after sequence)) w (lent sequences) (lent values) (lent pages) (lent blocks) result }
 {
-    match admits(
+    match admit_reading(
         w,
-        sequences.len(),
-        values.len(),
-        pages.len(),
-        blocks.len(),
-        NO_LIST,
+        sequences,
+        values,
+        pages,
+        blocks,
         Arguments::Sequence(sequence),
     ) {
-        Ok(()) => { reply(w, find_round(w, sequences, pages, blocks, sequence)) }
+        Ok(window) => reply(
+            w,
+            find_round(
+                window.header,
+                window.sequences,
+                window.pages,
+                window.blocks,
+                sequence,
+            ),
+        ),
         Err(why) => refuse(w, why),
     }
 }
@@ -116,18 +112,26 @@ pub fn first_from(
 ) -> Step
     ensures { MeetsBy (ask (first_from sequence)) w (lent sequences) (lent values) (lent pages) (lent blocks) result }
 {
-    match admits(
+    match admit_reading(
         w,
-        sequences.len(),
-        values.len(),
-        pages.len(),
-        blocks.len(),
-        NO_LIST,
+        sequences,
+        values,
+        pages,
+        blocks,
         Arguments::Sequence(sequence),
     ) {
-        Ok(()) => {
+        Ok(window) => {
             let before = sequence.wrapping_sub(1) % 0x8000_0000;
-            reply(w, find_round(w, sequences, pages, blocks, before))
+            reply(
+                w,
+                find_round(
+                    window.header,
+                    window.sequences,
+                    window.pages,
+                    window.blocks,
+                    before,
+                ),
+            )
         }
         Err(why) => refuse(w, why),
     }
@@ -135,25 +139,22 @@ pub fn first_from(
 
 // The next reachable pair from a cell number on, with the cell after it, or done; and how many retired words were read.
 #[tactic(auto, using(crate::proofs::IterLaws::iterating))]
-fn next_pair(
-    w: AdaptiveReceiverPacketWindow,
-    sequences: &[u32],
-    values: &[u32],
-    pages: &[u64],
-    blocks: &[u64],
-    cell: u32,
-) -> Answer
-    requires { ListsFit w sequences.now values.now pages.now blocks.now }
-    ensures { TellsBy (iter_of cell) w (lent sequences) (lent values) (lent pages) (lent blocks) (Ok result) }
+fn next_pair(window: WindowRef, cell: u32) -> Answer
+    ensures { Tells (iter_of cell) (state_in window.entry) (Ok result) }
 {
     let start = cell as usize;
-    let end = capacity(w.window_size);
+    let end = capacity(window.header.window_size);
     if end <= start {
         return Answer::Ended(0);
     }
-    let next = next_cell(w, pages, blocks, start, end);
+    let next = next_cell(window.header, window.pages, window.blocks, start, end);
     match next.cell {
-        Some(cell) => Answer::Pair(sequences[cell], values[cell], (cell + 1) as u32, next.reads),
+        Some(cell) => Answer::Pair(
+            window.sequences[cell],
+            window.values[cell],
+            (cell + 1) as u32,
+            next.reads,
+        ),
         None => Answer::Ended(next.reads),
     }
 }
@@ -170,16 +171,8 @@ pub fn iter(
 ) -> Step
     ensures { MeetsBy (ask (iter_of cell)) w (lent sequences) (lent values) (lent pages) (lent blocks) result }
 {
-    match admits(
-        w,
-        sequences.len(),
-        values.len(),
-        pages.len(),
-        blocks.len(),
-        NO_LIST,
-        Arguments::Nothing,
-    ) {
-        Ok(()) => { reply(w, Ok(next_pair(w, sequences, values, pages, blocks, cell))) }
+    match admit_reading(w, sequences, values, pages, blocks, Arguments::Nothing) {
+        Ok(window) => reply(w, Ok(next_pair(window, cell))),
         Err(why) => refuse(w, why),
     }
 }

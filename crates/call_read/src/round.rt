@@ -12,6 +12,7 @@ use window::memory::{capacity, position};
 use window::refusals::Refusal;
 
 // The sequence of the first live value from the position after the sequence's on, then from position 0.
+// No `WindowRef`: this is public and asks less than one, nothing of the list of values and less of the header.
 pub fn find_round(
     w: AdaptiveReceiverPacketWindow,
     sequences: &[u32],

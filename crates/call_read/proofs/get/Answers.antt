@@ -1,25 +1,14 @@
--- Refused as admits says, or else the answer of value_of. Assumes nothing.
+-- Refused as admit_reading says, or else the answer of value_of. Assumes nothing.
 use Rattle.std.proofs.Common.{refl}
-use Rattle.window.specs.Memory.{memory}
-use Rattle.window.specs.Lent.{ListsFit}
 use Rattle.model.specs.Calls.{get}
-use Rattle.call_base.specs.Answers.{state_of}
-use Rattle.call_base.proofs.MeetsLaws.{asked-refusal, asked-fits, asked-meets}
+use Rattle.call_base.proofs.MeetsLaws.{asked-refusal}
+use Rattle.call_base.proofs.ReadingLaws.{reading-meets}
 use Rattle.call_read.proofs.get.Goals as goal
 
 pub returns-in-Err : goal.returns-in-Err
-returns-in-Err c =
-    let s = c.args in
-    asked-refusal (get s.sequence) (state_of s.w (memory s.sequences.now s.values.now s.pages.now s.blocks.now)) _ _ c.in-Err.ensures c.refuse.ensures
-
-pub value_of-requires : goal.value_of-requires
-value_of-requires c =
-    let s = c.args in
-    let fit : ListsFit s.w s.sequences.now s.values.now s.pages.now s.blocks.now = asked-fits (get s.sequence) (state_of s.w (memory s.sequences.now s.values.now s.pages.now s.blocks.now)) c.in-Ok.ensures in
-    fit
+returns-in-Err c = asked-refusal (get c.args.sequence) _ _ _ c.in-Err.ensures.refused c.refuse.ensures
 
 pub returns-in-Ok : goal.returns-in-Ok
 returns-in-Ok c =
-    let s = c.args in
-    asked-meets (get s.sequence) (state_of s.w (memory s.sequences.now s.values.now s.pages.now s.blocks.now)) c.in-Ok.ensures _ _ c.reply.ensures refl
+    reading-meets _ _ c.in-Ok.ensures.given (get c.args.sequence) c.in-Ok.ensures.admitted _ _ c.reply.ensures refl
     c.value_of.ensures

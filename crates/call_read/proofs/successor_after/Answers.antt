@@ -1,26 +1,16 @@
--- Refused as admits says, or else what find_round finds (after_is). Assumes nothing.
-use Rattle.std.proofs.Common.{refl, ◌∙◌, arith}
-use Rattle.window.specs.Memory.{memory}
-use Rattle.window.specs.Lent.{ListsFit}
+-- Refused as admit_reading says, or else what find_round finds (after_is). Assumes nothing.
+use Rattle.std.proofs.Common.{refl, ◌∙◌}
 use Rattle.model.specs.Calls.{successor_after}
-use Rattle.call_base.specs.Answers.{state_of}
-use Rattle.call_base.proofs.MeetsLaws.{asked-refusal, asked-fits, asked-meets}
+use Rattle.call_base.proofs.MeetsLaws.{asked-refusal}
+use Rattle.call_base.proofs.ReadingLaws.{reading-meets}
+use Rattle.call_base.specs.Reading.{state_in}
 use Rattle.call_read.proofs.RoundLaws.{after_is}
 use Rattle.call_read.proofs.successor_after.Goals as goal
 
 pub returns-in-Err : goal.returns-in-Err
-returns-in-Err c =
-    let s = c.args in
-    asked-refusal (successor_after s.sequence) (state_of s.w (memory s.sequences.now s.values.now s.pages.now s.blocks.now)) _ _ c.in-Err.ensures c.refuse.ensures
-
-pub find_round-requires : goal.find_round-requires
-find_round-requires c =
-    let s = c.args in
-    let fit : ListsFit s.w s.sequences.now s.values.now s.pages.now s.blocks.now = asked-fits (successor_after s.sequence) (state_of s.w (memory s.sequences.now s.values.now s.pages.now s.blocks.now)) c.in-Ok.ensures in
-    let f = fit in record { window_size_bound = (f.within.size_high, omega (arith, f.within.n_high)); window_size_in_bounds = (f.long.sequences_long, f.long.pages_long, f.long.blocks_long) }
+returns-in-Err c = asked-refusal (successor_after c.args.sequence) _ _ _ c.in-Err.ensures.refused c.refuse.ensures
 
 pub returns-in-Ok : goal.returns-in-Ok
 returns-in-Ok c =
-    let s = c.args in
-    asked-meets (successor_after s.sequence) (state_of s.w (memory s.sequences.now s.values.now s.pages.now s.blocks.now)) c.in-Ok.ensures _ _ c.reply.ensures refl
-    (λ ok. c.find_round.ensures.gives s.values.now ok ∙ after_is s.w (memory s.sequences.now s.values.now s.pages.now s.blocks.now) s.sequence)
+    reading-meets _ _ c.in-Ok.ensures.given (successor_after c.args.sequence) c.in-Ok.ensures.admitted _ _ c.reply.ensures refl
+    (let r = c.in-Ok.window in λ ok. c.find_round.ensures.gives r.values.now ok ∙ after_is r.header (state_in r).memory c.args.sequence)
