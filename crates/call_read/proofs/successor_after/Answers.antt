@@ -13,4 +13,4 @@ returns-in-Err c = asked-refusal (successor_after c.args.sequence) _ _ _ c.in-Er
 pub returns-in-Ok : goal.returns-in-Ok
 returns-in-Ok c =
     reading-meets _ _ c.in-Ok.ensures.given (successor_after c.args.sequence) c.in-Ok.ensures.admitted _ _ c.reply.ensures refl
-    (let r = c.in-Ok.window in λ ok. c.find_round.ensures.gives r.values.now ok ∙ after_is r.header.now (state_in r).memory c.args.sequence)
+    (let r = c.in-Ok.window in λ ok. c.find_round.ensures.gives r.values.now ok ∙ after_is r.header (state_in r).memory c.args.sequence)
