@@ -69,6 +69,7 @@ pub fn get(
 }
 
 // The sequence of the first live value after the sequence's position, round to its own, last of all.
+// `find_round` is given w, not the window's header, which is the same: through that the header is copied once more.
 pub fn successor_after(
     w: AdaptiveReceiverPacketWindow,
     sequences: &[u32],
@@ -89,13 +90,7 @@ pub fn successor_after(
     ) {
         Ok(window) => reply(
             w,
-            find_round(
-                window.header,
-                window.sequences,
-                window.pages,
-                window.blocks,
-                sequence,
-            ),
+            find_round(w, window.sequences, window.pages, window.blocks, sequence),
         ),
         Err(why) => refuse(w, why),
     }
@@ -124,13 +119,7 @@ pub fn first_from(
             let before = sequence.wrapping_sub(1) % 0x8000_0000;
             reply(
                 w,
-                find_round(
-                    window.header,
-                    window.sequences,
-                    window.pages,
-                    window.blocks,
-                    before,
-                ),
+                find_round(w, window.sequences, window.pages, window.blocks, before),
             )
         }
         Err(why) => refuse(w, why),
