@@ -29,15 +29,15 @@ fn is_stranger(first: u32, count: u32, sequence: u32) -> bool
 
 // The sequence of the first stranger at the positions from `start` up to `end`.
 fn find_stranger(
-    window: WindowRef,
+    window: &WindowRef,
     start: usize,
     end: usize,
     first: u32,
     count: u32,
 ) -> Result<Option<u32>, Refusal>
-    requires { (start < end) × (end ≤ capacity_of window.header.window_size) }
-    ensures { FindsStranger window.entry.header window.entry.sequences.now window.entry.pages.now window.entry.blocks.now
-        start end first count result }
+    requires { (start < end) × (end ≤ capacity_of window.now.header.window_size) }
+    ensures { FindsStranger window.entry.now.header window.entry.now.sequences.now window.entry.now.pages.now
+        window.entry.now.blocks.now start end first count result }
 {
     let mut from = start;
     while from < end {
@@ -66,10 +66,10 @@ fn find_stranger(
 
 // The sequence of the first stranger at `count` positions in a row from first's: up to the capacity, and then from 0.
 #[tactic(auto, using(crate::proofs::RangeStrangerLaws::ranging))]
-fn find_in_range(window: WindowRef, first: u32, count: u32) -> Result<Option<u32>, Refusal>
-    requires { (0 < count) × (count ≤ capacity_of window.header.window_size) }
-    ensures { FindsInRange window.entry.header window.entry.sequences.now window.entry.pages.now window.entry.blocks.now
-        first count result }
+fn find_in_range(window: &WindowRef, first: u32, count: u32) -> Result<Option<u32>, Refusal>
+    requires { (0 < count) × (count ≤ capacity_of window.now.header.window_size) }
+    ensures { FindsInRange window.entry.now.header window.entry.now.sequences.now window.entry.now.pages.now
+        window.entry.now.blocks.now first count result }
 {
     let end = capacity(window.header.window_size);
     let start = position(window.header.window_size, first);
@@ -112,7 +112,7 @@ fn first_stranger(window: WindowRef, first: u32, last: u32) -> Result<Answer, Re
     ensures { Tells (stranger_of first last) (state_in window.entry) result }
 {
     let count = range_count(first, last);
-    let found = find_in_range(window, first, count)?;
+    let found = find_in_range(&window, first, count)?;
     stranger_answer(window, found)
 }
 
