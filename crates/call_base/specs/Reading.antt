@@ -6,4 +6,4 @@ use Rattle.call_base.specs.Answers.{state_of}
 
 -- the header, and its lists as one memory
 abbrev pub state_in : WindowRef → State
-state_in r = state_of r.header.now (memory r.sequences.now r.values.now r.pages.now r.blocks.now)
+state_in r = state_of r.header (memory r.sequences.now r.values.now r.pages.now r.blocks.now)

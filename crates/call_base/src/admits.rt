@@ -98,21 +98,21 @@ pub fn admits(
 // The header and the lists of a call with these arguments, for reading, unless the call is refused.
 #[tactic(auto, using(crate::proofs::ReadingLaws::admitting))]
 pub fn admit_reading<'a>(
-    w: &'a AdaptiveReceiverPacketWindow,
+    w: AdaptiveReceiverPacketWindow,
     sequences: &'a [u32],
     values: &'a [u32],
     pages: &'a [u64],
     blocks: &'a [u64],
     arguments: Arguments,
 ) -> Result<WindowRef<'a>, Refusal>
-    ensures given { IfOk result (λ r. state_in r ≡ state_of w.now (memory sequences.now values.now pages.now blocks.now)) }
+    ensures given { IfOk result (λ r. state_in r ≡ state_of w (memory sequences.now values.now pages.now blocks.now)) }
     ensures admitted { IfOk result (λ r.
-        0 ≡ admission w.now (length sequences.now) (length values.now) (length pages.now) (length blocks.now) 384 (arguments_of arguments)) }
+        0 ≡ admission w (length sequences.now) (length values.now) (length pages.now) (length blocks.now) 384 (arguments_of arguments)) }
     ensures refused { IfErr result (λ why. refusal_number_of why
-        ≡ admission w.now (length sequences.now) (length values.now) (length pages.now) (length blocks.now) 384 (arguments_of arguments)) }
+        ≡ admission w (length sequences.now) (length values.now) (length pages.now) (length blocks.now) 384 (arguments_of arguments)) }
 {
     admits(
-        *w,
+        w,
         sequences.len(),
         values.len(),
         pages.len(),

@@ -6,10 +6,10 @@ use window::AdaptiveReceiverPacketWindow;
 // The header and the lent lists of a call to which refusal 6 does not apply, for reading.
 #[derive(Clone, Copy)]
 pub struct WindowRef<'a> {
-    pub header: &'a AdaptiveReceiverPacketWindow,
+    pub header: AdaptiveReceiverPacketWindow,
     pub sequences: &'a [u32],
     pub values: &'a [u32],
     pub pages: &'a [u64],
     pub blocks: &'a [u64],
-    pub ghost fits: { ListsFit header.now sequences.now values.now pages.now blocks.now },
+    pub ghost fits: { ListsFit header sequences.now values.now pages.now blocks.now },
 }

@@ -30,7 +30,7 @@ pub fn value_of(window: WindowRef, sequence: u32) -> Answer
 {
     let n = window.header.n as usize;
     let page = position(window.header.window_size, sequence) / PAGE_SLOTS;
-    if !reachable(*window.header, window.blocks, page) {
+    if !reachable(window.header, window.blocks, page) {
         return Answer::Absent;
     }
     let words = page_words(window.pages, page);
@@ -56,7 +56,7 @@ pub fn get(
     ensures { MeetsBy (ask (get_of sequence)) w (lent sequences) (lent values) (lent pages) (lent blocks) result }
 {
     match admit_reading(
-        &w,
+        w,
         sequences,
         values,
         pages,
@@ -69,6 +69,7 @@ pub fn get(
 }
 
 // The sequence of the first live value after the sequence's position, round to its own, last of all.
+// `find_round` is given w, not the window's header, which is the same: through that the header is copied once more.
 pub fn successor_after(
     w: AdaptiveReceiverPacketWindow,
     sequences: &[u32],
@@ -80,7 +81,7 @@ pub fn successor_after(
     ensures { MeetsBy (ask (successor_after sequence)) w (lent sequences) (lent values) (lent pages) (lent blocks) result }
 {
     match admit_reading(
-        &w,
+        w,
         sequences,
         values,
         pages,
@@ -89,13 +90,7 @@ pub fn successor_after(
     ) {
         Ok(window) => reply(
             w,
-            find_round(
-                *window.header,
-                window.sequences,
-                window.pages,
-                window.blocks,
-                sequence,
-            ),
+            find_round(w, window.sequences, window.pages, window.blocks, sequence),
         ),
         Err(why) => refuse(w, why),
     }
@@ -113,7 +108,7 @@ pub fn first_from(
     ensures { MeetsBy (ask (first_from sequence)) w (lent sequences) (lent values) (lent pages) (lent blocks) result }
 {
     match admit_reading(
-        &w,
+        w,
         sequences,
         values,
         pages,
@@ -124,13 +119,7 @@ pub fn first_from(
             let before = sequence.wrapping_sub(1) % 0x8000_0000;
             reply(
                 w,
-                find_round(
-                    *window.header,
-                    window.sequences,
-                    window.pages,
-                    window.blocks,
-                    before,
-                ),
+                find_round(w, window.sequences, window.pages, window.blocks, before),
             )
         }
         Err(why) => refuse(w, why),
@@ -147,7 +136,7 @@ fn next_pair(window: WindowRef, cell: u32) -> Answer
     if end <= start {
         return Answer::Ended(0);
     }
-    let next = next_cell(*window.header, window.pages, window.blocks, start, end);
+    let next = next_cell(window.header, window.pages, window.blocks, start, end);
     match next.cell {
         Some(cell) => Answer::Pair(
             window.sequences[cell],
@@ -171,7 +160,7 @@ pub fn iter(
 ) -> Step
     ensures { MeetsBy (ask (iter_of cell)) w (lent sequences) (lent values) (lent pages) (lent blocks) result }
 {
-    match admit_reading(&w, sequences, values, pages, blocks, Arguments::Nothing) {
+    match admit_reading(w, sequences, values, pages, blocks, Arguments::Nothing) {
         Ok(window) => reply(w, Ok(next_pair(window, cell))),
         Err(why) => refuse(w, why),
     }

@@ -29,20 +29,20 @@ fn is_stranger(first: u32, count: u32, sequence: u32) -> bool
 
 // The sequence of the first stranger at the positions from `start` up to `end`.
 fn find_stranger(
-    window: WindowRef,
+    window: &WindowRef,
     start: usize,
     end: usize,
     first: u32,
     count: u32,
 ) -> Result<Option<u32>, Refusal>
-    requires { (start < end) × (end ≤ capacity_of window.header.now.window_size) }
-    ensures { FindsStranger window.entry.header.now window.entry.sequences.now window.entry.pages.now window.entry.blocks.now
-        start end first count result }
+    requires { (start < end) × (end ≤ capacity_of window.now.header.window_size) }
+    ensures { FindsStranger window.entry.now.header window.entry.now.sequences.now window.entry.now.pages.now
+        window.entry.now.blocks.now start end first count result }
 {
     let mut from = start;
     while from < end {
         let Some(sequence) = find_live(
-            *window.header,
+            window.header,
             window.sequences,
             window.pages,
             window.blocks,
@@ -66,10 +66,10 @@ fn find_stranger(
 
 // The sequence of the first stranger at `count` positions in a row from first's: up to the capacity, and then from 0.
 #[tactic(auto, using(crate::proofs::RangeStrangerLaws::ranging))]
-fn find_in_range(window: WindowRef, first: u32, count: u32) -> Result<Option<u32>, Refusal>
-    requires { (0 < count) × (count ≤ capacity_of window.header.now.window_size) }
-    ensures { FindsInRange window.entry.header.now window.entry.sequences.now window.entry.pages.now window.entry.blocks.now
-        first count result }
+fn find_in_range(window: &WindowRef, first: u32, count: u32) -> Result<Option<u32>, Refusal>
+    requires { (0 < count) × (count ≤ capacity_of window.now.header.window_size) }
+    ensures { FindsInRange window.entry.now.header window.entry.now.sequences.now window.entry.now.pages.now
+        window.entry.now.blocks.now first count result }
 {
     let end = capacity(window.header.window_size);
     let start = position(window.header.window_size, first);
@@ -86,7 +86,7 @@ fn find_in_range(window: WindowRef, first: u32, count: u32) -> Result<Option<u32
 // The pair of a sequence that a search found.
 #[tactic(auto, using(crate::proofs::StrangerAnswerLaws::answering))]
 fn pair_answer(window: WindowRef, sequence: u32) -> Result<Answer, Refusal>
-    ensures { GivesPair window.entry.header.now (state_in window.entry).memory sequence (answer_of result) }
+    ensures { GivesPair window.entry.header (state_in window.entry).memory sequence (answer_of result) }
 {
     match value_of(window, sequence) {
         Answer::Found(value) => Ok(Answer::Pair(sequence, value, 0, 0)),
@@ -97,7 +97,7 @@ fn pair_answer(window: WindowRef, sequence: u32) -> Result<Answer, Refusal>
 // The answer for what a search found: the pair, or none.
 #[tactic(auto, using(crate::proofs::StrangerAnswerLaws::answering))]
 fn stranger_answer(window: WindowRef, found: Option<u32>) -> Result<Answer, Refusal>
-    ensures { GivesFound window.entry.header.now (state_in window.entry).memory (Ok found) (answer_of result) }
+    ensures { GivesFound window.entry.header (state_in window.entry).memory (Ok found) (answer_of result) }
 {
     match found {
         Some(sequence) => pair_answer(window, sequence),
@@ -108,11 +108,11 @@ fn stranger_answer(window: WindowRef, found: Option<u32>) -> Result<Answer, Refu
 // The first stranger of a range that is not refused.
 #[tactic(auto, using(crate::proofs::StrangerAnswerLaws::answering))]
 fn first_stranger(window: WindowRef, first: u32, last: u32) -> Result<Answer, Refusal>
-    requires { range_count_of first last ≤ window.header.now.window_size }
+    requires { range_count_of first last ≤ window.header.window_size }
     ensures { Tells (stranger_of first last) (state_in window.entry) result }
 {
     let count = range_count(first, last);
-    let found = find_in_range(window, first, count)?;
+    let found = find_in_range(&window, first, count)?;
     stranger_answer(window, found)
 }
 
@@ -129,7 +129,7 @@ pub fn stranger(
     ensures { MeetsBy (ask (stranger_of first last)) w (lent sequences) (lent values) (lent pages) (lent blocks) result }
 {
     match admit_reading(
-        &w,
+        w,
         sequences,
         values,
         pages,

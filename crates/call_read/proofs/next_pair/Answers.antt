@@ -8,7 +8,7 @@ use Rattle.call_read.proofs.next_pair.Goals as goal
 use Rattle.call_read.proofs.next_pair.Goals.{In-Some}
 
 -- the cell that was found is one of the window's
-cell-lt : (c : In-Some) → c.in-Some.cell < capacity c.args.window.header.now.window_size
+cell-lt : (c : In-Some) → c.in-Some.cell < capacity c.args.window.header.window_size
 cell-lt c = let l : c.in-Some.cell < c.capacity-end.result = rw c.in-Some.is at c.next_cell-next.ensures.bounded in omega (arith, c.capacity-end.ensures)
 
 pub returns-in-Some : goal.returns-in-Some
@@ -17,5 +17,5 @@ returns-in-Some c =
     let m = (state_in w).memory in
     let r = c.next_cell-next.ensures in
     let l = cell-lt (goal.at.returns-in-Some c).In-Some in
-    λ ok. iter-some (decode w.header.now m) c.args.cell _ _ _ (c.capacity-end.ensures ∙ capacity-is w.header.now m) (r.gives w.sequences.now w.values.now ok) r.counted _ c.in-Some.is (omega (arith, l, c.capacity-end.ensures)) _
-    (pair-at w.header.now m _ l)
+    λ ok. iter-some (decode w.header m) c.args.cell _ _ _ (c.capacity-end.ensures ∙ capacity-is w.header m) (r.gives w.sequences.now w.values.now ok) r.counted _ c.in-Some.is (omega (arith, l, c.capacity-end.ensures)) _
+    (pair-at w.header m _ l)

@@ -7,7 +7,7 @@ use Rattle.call_read.proofs.stranger.find_stranger.Goals as goal
 use Rattle.call_read.proofs.stranger.find_stranger.Goals.{In-Some}
 
 -- what the walk found
-found-live : (c : In-Some) → let w = c.args.window in FindsLive w.header.now w.sequences.now w.pages.now w.blocks.now c.loop-from.from c.args.end (Ok (Some c.in-Some.sequence))
+found-live : (c : In-Some) → let w = c.args.window.now in FindsLive w.header w.sequences.now w.pages.now w.blocks.now c.loop-from.from c.args.end (Ok (Some c.in-Some.sequence))
 found-live c = rw c.in-Some.is at c.in_ok-sequence.ensures
 
 pub loop-from-init : goal.loop-from-init

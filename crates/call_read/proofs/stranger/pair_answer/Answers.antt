@@ -6,4 +6,4 @@ use Rattle.call_read.proofs.stranger.pair_answer.Goals as goal
 
 pub returns-in_default : goal.returns-in_default
 returns-in_default c =
-    gives_none c.args.window.header.now (state_in c.args.window).memory c.args.sequence c.value_of.result c.value_of.ensures c.in_default.not-Found Unsound
+    gives_none c.args.window.header (state_in c.args.window).memory c.args.sequence c.value_of.result c.value_of.ensures c.in_default.not-Found Unsound
