@@ -95,11 +95,11 @@ def rust_structs(text, types):
 
 
 def source_codes(text):
-    """Answer::Found(..) => numbered(4, ..): FOUND is 4. A later answer with the same code, as iter's done with its reads, has no name of
-    its own there."""
+    """Ok(Answer::Found(..)) => numbered(4, ..): FOUND is 4, and what numbered has for Err(..) is REFUSED. A later answer with the same
+    code, as iter's done with its reads, has no name of its own there."""
     names = {}
-    for name, code in re.findall(r"Answer::(\w+)(?:\([^)]*\))? => numbered\((\d+)", text):
-        names.setdefault(int(code), upper(name))
+    for name, code in re.findall(r"(?:Ok\(Answer::(\w+)(?:\([^)]*\))?|Err\(\w+)\) => numbered\(\s*(\d+)", text):
+        names.setdefault(int(code), upper(name or "Refused"))
     return {name: code for code, name in names.items()}
 
 
