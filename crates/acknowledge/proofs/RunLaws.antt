@@ -1,6 +1,6 @@
 -- The live sequences of one page, over plain variables: the mask of a sparse page by a pass over its cells, and what a run over cells or
 -- over the mask says of what stands at the positions. Assumes nothing.
-use Rattle.std.proofs.Common.{◌≡◌, ℕ, ◌+◌, ◌-◌, ◌*◌, ◌%◌, ◌^◌, ◌<◌, ◌≤◌, true, false, List, get_or, sym, ap, ◌∙◌, arith, eq-eqb}
+use Rattle.std.proofs.Common.{◌≡◌, ℕ, ◌+◌, ◌-◌, ◌*◌, ◌/◌, ◌%◌, ◌^◌, ◌<◌, ◌≤◌, true, false, List, get_or, sym, ap, ◌∙◌, arith, eq-eqb}
 use borrow.Author.Tests.{eqb-false}
 use native.Mathlib.Decide.{ℕ_discrete}
 use Rattle.words.proofs.CaseLaws.{bool}
@@ -83,6 +83,17 @@ module _ (ss : List ℕ) (filled row : ℕ) where
     where
       before : (c : ℕ) → c < n + 1 → (get_or ss c 0 % 64 ≡ get_or ss n 0 % 64 → ⊥) → c < n
       before c l e = elim (ℕ_discrete c n) [ yes q ↦ absurd (e (ap (λ (x : ℕ). get_or ss x 0 % 64) q)) | no q ↦ omega arith ]
+
+  -- one cell more, which is put in if it is in use and of the row
+  pub mask-turn : (n mask next : ℕ) → Masks ss filled row n mask → (InRow ss filled row n → next ≡ set_bit mask (get_or ss n 0 % 64))
+      → ((InRow ss filled row n → ⊥) → next ≡ mask) → Masks ss filled row (n + 1) next
+  mask-turn n mask next m put skip = elim (ℕ_discrete (bit_at filled n) 1) [
+    | yes u ↦ elim (ℕ_discrete (get_or ss n 0 / 64) row) [
+      | yes r ↦ rw (put (u, r)) (mask-put n mask m (u, r))
+      | no r ↦ rw (skip (λ i. r i.1)) (mask-skip n mask m (λ i. r i.1))
+    ]
+    | no u ↦ rw (skip (λ i. u i.0)) (mask-skip n mask m (λ i. u i.0))
+  ]
 
 -- ---- what stands at a position, on a page whose values are in their places
 

@@ -58,7 +58,7 @@ module _ (h : AdaptiveReceiverPacketWindow) (pages blocks : List ℕ) (b : ℕ) 
     retired_past t d e = record { is = λ ss vs. decides-no (λ s. d.fails e (few-retired ss vs s)) }
 
     -- live is what was counted
-    module _ (live : ℕ) (el : live ≡ values_where_of pages blocks h.retired_blocks false (64 * b) n) where
+    module _ (live : ℕ) (el : live ≡ values_where_of pages blocks h.retired_blocks 0 (64 * b) n) where
       pub block_decided : (t u r : Bool) → Decides (BitMatches h.nonempty_summary b x.nonempty) t → t ≡ true
           → Decides (x.nonempty < 2 ^ n) u → u ≡ true → Decides (x.retired < 2 ^ n) r → r ≡ true
           → DecidesBlock h pages blocks b (eqb x.live live)
@@ -66,7 +66,7 @@ module _ (h : AdaptiveReceiverPacketWindow) (pages blocks : List ℕ) (b : ℕ) 
       block_decided t u r dt et du eu dr er = record {
         is = λ ss vs.
             let m = memory ss vs pages blocks in
-            let sum = el ∙ ap (values_where_of pages blocks h.retired_blocks false (64 * b)) en ∙ block-sum h m b in
+            let sum = el ∙ ap (values_where_of pages blocks h.retired_blocks 0 (64 * b)) en ∙ block-sum h m b in
             record {
               holds = λ e. record {
                 summary = dt.holds et ∙ ap (λ (y : Block). one (not (eqb y.nonempty 0))) (sym (block-is ss vs));

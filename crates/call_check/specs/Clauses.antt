@@ -1,5 +1,5 @@
 -- The clauses of `Sound`, as the code tests them: those of one page, of one block and of the header. Definitions only. Assumes nothing.
-use Rattle.std.specs.Prelude.{◌≡◌, Bool, true, false, cond, not, List, ℕ, ◌+◌, ◌-◌, ◌*◌, ◌/◌, ◌%◌, ◌^◌, ◌<◌, min, eqb}
+use Rattle.std.specs.Prelude.{◌≡◌, true, false, cond, not, List, ℕ, ◌+◌, ◌-◌, ◌*◌, ◌/◌, ◌%◌, ◌^◌, ◌<◌, min, eqb}
 use Rattle.words.specs.Word.{bit_at, count}
 use Rattle.model.specs.Table.{sum}
 use Rattle.model.specs.Demand3.{one}
@@ -37,13 +37,11 @@ pub record SoundHeader (w : Window) : Type 0 where
   pub retired_block_bits : w.header.retired_blocks < 2 ^ blocks_of w
   pub no_block_mark : w.header.retired_held ≡ 0 → w.header.retired_blocks ≡ 0
 
--- the values of page g, if `retired` says of it whether it is retired
-abbrev pub values_at_of : List ℕ → List ℕ → ℕ → Bool → ℕ → ℕ
-values_at_of pages blocks retired_blocks true g =
-    cond (eqb (page_retired_of retired_blocks (block_words_at blocks (g / 64)) g) 1) (count (words_at pages g).occupied) 0
-values_at_of pages blocks retired_blocks false g =
-    cond (eqb (page_retired_of retired_blocks (block_words_at blocks (g / 64)) g) 1) 0 (count (words_at pages g).occupied)
+-- the values of page g, if `retired` says of it whether it is retired: 1 or 0
+abbrev pub values_at_of : List ℕ → List ℕ → ℕ → ℕ → ℕ → ℕ
+values_at_of pages blocks retired_blocks retired g =
+    cond (eqb (page_retired_of retired_blocks (block_words_at blocks (g / 64)) g) retired) (count (words_at pages g).occupied) 0
 
 -- those of the n pages from `from` upwards
-unfoldable pub values_where_of : List ℕ → List ℕ → ℕ → Bool → ℕ → ℕ → ℕ
+unfoldable pub values_where_of : List ℕ → List ℕ → ℕ → ℕ → ℕ → ℕ → ℕ
 values_where_of pages blocks retired_blocks retired from n = sum n (λ (i : ℕ). values_at_of pages blocks retired_blocks retired (from + i))

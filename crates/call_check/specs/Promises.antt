@@ -42,8 +42,8 @@ pub record HeaderWords (h : AdaptiveReceiverPacketWindow) : Type 0 where
 
 -- the header's counts
 pub record HeaderCounts (h : AdaptiveReceiverPacketWindow) (pages blocks : List ℕ) : Type 0 where
-  pub len : h.len ≡ values_where_of pages blocks h.retired_blocks false 0 (page_count_of h.window_size)
-  pub held : h.retired_held ≡ values_where_of pages blocks h.retired_blocks true 0 (page_count_of h.window_size)
+  pub len : h.len ≡ values_where_of pages blocks h.retired_blocks 0 0 (page_count_of h.window_size)
+  pub held : h.retired_held ≡ values_where_of pages blocks h.retired_blocks 1 0 (page_count_of h.window_size)
 
 -- the words of pages and blocks are as many as window_size names
 pub record WordsLent (size : ℕ) (pages blocks : List ℕ) : Type 0 where

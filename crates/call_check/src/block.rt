@@ -36,7 +36,7 @@ fn block_sound(w: AdaptiveReceiverPacketWindow, pages: &[u64], blocks: &[u64], b
     if !no_bits_from(words.retired, n) {
         return false;
     }
-    let live = values_where(pages, blocks, w.retired_blocks, 64 * block, n, false);
+    let live = values_where(pages, blocks, w.retired_blocks, 64 * block, n, 0);
     words.live == live as u64
 }
 

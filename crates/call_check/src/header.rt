@@ -37,11 +37,11 @@ fn counts_sound(w: AdaptiveReceiverPacketWindow, pages: &[u64], blocks: &[u64]) 
     ensures { Decides (HeaderCounts w pages.now blocks.now) result }
 {
     let count = page_count(w.window_size);
-    let live = values_where(pages, blocks, w.retired_blocks, 0, count, false);
+    let live = values_where(pages, blocks, w.retired_blocks, 0, count, 0);
     if w.len as usize != live {
         return false;
     }
-    let retired = values_where(pages, blocks, w.retired_blocks, 0, count, true);
+    let retired = values_where(pages, blocks, w.retired_blocks, 0, count, 1);
     w.retired_held as usize == retired
 }
 

@@ -1,5 +1,5 @@
 -- clear and clear_bounded, over plain variables: every value retired, and then a release. Assumes nothing.
-use Rattle.std.proofs.Common.{◌≡◌, ℕ, ◌+◌, ◌*◌, ◌≤◌, eqb, List, length, drop, sym, refl, ap, ◌∙◌, subst, arith}
+use Rattle.std.proofs.Common.{◌≡◌, ℕ, ◌+◌, ◌*◌, ◌≤◌, eqb, List, Ok, length, drop, sym, refl, ap, ◌∙◌, subst, arith}
 use Rattle.words.proofs.CaseLaws.{bool}
 use Rattle.window.specs.declared.AdaptiveReceiverPacketWindow.{AdaptiveReceiverPacketWindow}
 use Rattle.window.specs.declared.answers.Answer.TheVariants.{Done, Found}
@@ -72,9 +72,9 @@ module _ (h : AdaptiveReceiverPacketWindow) (ss vs pages blocks : List ℕ) (h�
     unfolding clear_step
     gives ok = ap (λ (x : Release). effect x.after done x.out) (t.gives (sound-all ok) ∙ ap (release 256) (retired ok))
 
-    pub clear-fills : Fills clear_step (state_of h (memory ss vs pages blocks)) l (left_of (finished r.window Done r.count r.sound) (memory ss vs pages' blocks') l')
+    pub clear-fills : Fills clear_step (state_of h (memory ss vs pages blocks)) l (left_of (finished r.window (Ok Done) r.count r.sound) (memory ss vs pages' blocks') l')
     clear-fills =
-        finished-fills clear_step (state_of h (memory ss vs pages blocks)) l r.window Done r.count r.sound ss vs pages' blocks' l'
+        finished-fills clear_step (state_of h (memory ss vs pages blocks)) l r.window (Ok Done) r.count r.sound ss vs pages' blocks' l'
         refl t.wrote (omega (arith, t.few, t.paid))
         (words-past h.window_size ss vs pages blocks pages' blocks' (both-within pages' blocks' t.within))
         (words-lengths h.window_size ss vs pages blocks pages' blocks' (both-within pages' blocks' t.within))
@@ -99,9 +99,9 @@ module _ (h : AdaptiveReceiverPacketWindow) (ss vs pages blocks : List ℕ) (h�
         ap (λ (n : ℕ). effect (decode r.window (memory ss vs pages' blocks')) (found n) (stretch 0 r.count l')) (sym (stretch-length 0 r.count l' (omega (arith, few, long, t.wrote.long))))
         ∙ ap (λ (x : Returned). effect x.after (found (length x.out)) x.out) (t.gives (sound-all ok) (none-live ok) ∙ pages-released ok)
 
-    pub clear-bounded-fills : Fills (λ (w : Window). clear_bounded_step w number) (state_of h (memory ss vs pages blocks)) l (left_of (finished r.window (Found r.count) r.count r.sound) (memory ss vs pages' blocks') l')
+    pub clear-bounded-fills : Fills (λ (w : Window). clear_bounded_step w number) (state_of h (memory ss vs pages blocks)) l (left_of (finished r.window (Ok (Found r.count)) r.count r.sound) (memory ss vs pages' blocks') l')
     clear-bounded-fills =
-        finished-fills (λ (w : Window). clear_bounded_step w number) (state_of h (memory ss vs pages blocks)) l r.window (Found r.count) r.count r.sound ss vs pages' blocks' l'
+        finished-fills (λ (w : Window). clear_bounded_step w number) (state_of h (memory ss vs pages blocks)) l r.window (Ok (Found r.count)) r.count r.sound ss vs pages' blocks' l'
         refl t.wrote few
         (words-past h.window_size ss vs pages blocks pages' blocks' (both-within pages' blocks' t.within))
         (words-lengths h.window_size ss vs pages blocks pages' blocks' (both-within pages' blocks' t.within))

@@ -35,9 +35,9 @@ module _ (h : AdaptiveReceiverPacketWindow) (ss vs pages blocks l : List ℕ) (b
       ∙ ap (λ (x : Release). effect x.after (released (length x.out) x.units) x.out) (t.gives ok)
 
   pub release-fills : Fills (λ (w : Window). release_step w budget) (state_of h (memory ss vs pages blocks)) l
-      (left_of (finished r.window (Released r.count r.units) r.count r.sound) (memory ss vs pages' blocks') l')
+      (left_of (finished r.window (Ok (Released r.count r.units)) r.count r.sound) (memory ss vs pages' blocks') l')
   release-fills =
-      finished-fills (λ (w : Window). release_step w budget) (state_of h (memory ss vs pages blocks)) l r.window (Released r.count r.units) r.count r.sound ss vs pages' blocks' l'
+      finished-fills (λ (w : Window). release_step w budget) (state_of h (memory ss vs pages blocks)) l r.window (Ok (Released r.count r.units)) r.count r.sound ss vs pages' blocks' l'
       refl t.wrote few (words-past h.window_size ss vs pages blocks pages' blocks' t.within) (words-lengths h.window_size ss vs pages blocks pages' blocks' t.within)
       t.sound gives
 

@@ -1,5 +1,5 @@
 -- remove_range, over plain variables: a range retired, the window made ready, and a release visit. Assumes nothing.
-use Rattle.std.proofs.Common.{◌≡◌, ℕ, ◌+◌, ◌/◌, ◌%◌, ◌^◌, ◌<◌, ◌≤◌, ◌&&◌, eqb, List, ◌++◌, sym, refl, ap, ◌∙◌, subst, arith}
+use Rattle.std.proofs.Common.{◌≡◌, ℕ, ◌+◌, ◌/◌, ◌%◌, ◌^◌, ◌<◌, ◌≤◌, ◌&&◌, eqb, List, Ok, ◌++◌, sym, refl, ap, ◌∙◌, subst, arith}
 use Rattle.words.proofs.CaseLaws.{bool}
 use Rattle.window.specs.declared.AdaptiveReceiverPacketWindow.{AdaptiveReceiverPacketWindow}
 use Rattle.window.specs.declared.answers.Answer.TheVariants.{Found}
@@ -158,12 +158,12 @@ module _ (h : AdaptiveReceiverPacketWindow) (ss vs pages blocks l : List ℕ) (s
     gives = λ i. effect (visit i).after (found (removed-is i)) (out-is i)
 
   pub range-fills : Fills (λ (v : Window). range_step v start count) (state_of h (memory ss vs pages blocks)) l
-      (left_of (finished r₂.window (Found removed) (r₁.count + r₂.count) (r₁.sound && r₂.sound)) (memory ss₁ vs₁ pages₂ blocks₂) l₂)
+      (left_of (finished r₂.window (Ok (Found removed)) (r₁.count + r₂.count) (r₁.sound && r₂.sound)) (memory ss₁ vs₁ pages₂ blocks₂) l₂)
   range-fills =
       let m = memory ss vs pages blocks in
       let m₁ = memory ss₁ vs₁ pages₁ blocks₁ in
       let m₂ = memory ss₁ vs₁ pages₂ blocks₂ in
-      finished-fills (λ (v : Window). range_step v start count) (state_of h (memory ss vs pages blocks)) l r₂.window (Found removed) (r₁.count + r₂.count) (r₁.sound && r₂.sound) ss₁ vs₁ pages₂ blocks₂ l₂
+      finished-fills (λ (v : Window). range_step v start count) (state_of h (memory ss vs pages blocks)) l r₂.window (Ok (Found removed)) (r₁.count + r₂.count) (r₁.sound && r₂.sound) ss₁ vs₁ pages₂ blocks₂ l₂
       refl (wrote_then 0 r₁.count r₂.count l l₁ l₂ t.wrote begins) (omega (arith, t.few, u.few, u.paid))
       (past-then h.window_size m m₁ m₂ t.past (words-past h.window_size ss₁ vs₁ pages₁ blocks₁ pages₂ blocks₂ within))
       (lengths-then m m₁ m₂ t.lengths (words-lengths h.window_size ss₁ vs₁ pages₁ blocks₁ pages₂ blocks₂ within))

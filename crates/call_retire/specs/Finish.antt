@@ -1,16 +1,17 @@
 -- The outcome of a call that filled its list, and the point after it. Definitions only. Assumes nothing.
-use Rattle.std.specs.Prelude.{◌≡◌, ℕ, Bool, cond, Ok, Err}
+use Rattle.std.specs.Prelude.{◌≡◌, ℕ, Bool, cond, Result, Err}
 use Rattle.window.specs.declared.AdaptiveReceiverPacketWindow.{AdaptiveReceiverPacketWindow}
 use Rattle.window.specs.declared.answers.Answer.{Answer}
 use Rattle.window.specs.declared.answers.Step.{Step}
+use Rattle.window.specs.declared.refusals.Refusal.{Refusal}
 use Rattle.window.specs.declared.refusals.Refusal.TheVariants.{Unsound}
 use Rattle.window.specs.Memory.{capacity, position}
 use Rattle.model.specs.Steps.{set_point}
 use Rattle.laws_acknowledge.specs.Increments.{after_range_of}
 
--- the answer, or refusal 7, with `count` values returned
-unfoldable pub finished : AdaptiveReceiverPacketWindow → Answer → ℕ → Bool → Step
-finished w a count sound = record { window = w; answer = record { answer = cond sound (Ok a) (Err Unsound); count = count } }
+-- the answer or refusal, or refusal 7, with `count` values returned
+unfoldable pub finished : AdaptiveReceiverPacketWindow → Result Answer Refusal → ℕ → Bool → Step
+finished w a count sound = record { window = w; answer = record { answer = cond sound a (Err Unsound); count = count } }
 
 -- ---- the point
 

@@ -37,7 +37,7 @@ fn clear_all(
         AdaptiveReceiverPacketWindow::MAX_RETIRED_RELEASED_PER_VISIT,
     );
     let window = visited.window;
-    finish(window, Answer::Done, visited.count, visited.sound)
+    finish(window, Ok(Answer::Done), visited.count, visited.sound)
 }
 
 pub fn clear(

@@ -39,7 +39,7 @@ fn clear_some(
         number as usize,
     );
     let window = released.window;
-    let answer = Answer::Found(released.count as u32);
+    let answer = Ok(Answer::Found(released.count as u32));
     finish(window, answer, released.count, released.sound)
 }
 

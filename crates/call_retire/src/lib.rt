@@ -15,17 +15,18 @@ use window::AdaptiveReceiverPacketWindow;
 use window::answers::{Answer, Outcome, Step};
 use window::refusals::Refusal;
 
-// The outcome of a call that put `count` values into its list: the answer, or refusal 7 where it met an unsound state.
+// The outcome of a call that put `count` values into its list: the answer or refusal, or refusal 7 where it met an unsound state.
 #[tactic(auto, unfolding(crate::specs::Finish::finished))]
-pub fn finish(w: AdaptiveReceiverPacketWindow, answer: Answer, count: usize, sound: bool) -> Step
+pub fn finish(
+    w: AdaptiveReceiverPacketWindow,
+    answer: Result<Answer, Refusal>,
+    count: usize,
+    sound: bool,
+) -> Step
     requires { count ≤ 384 }
     ensures { result ≡ finished w answer count sound }
 {
-    let answer = if sound {
-        Ok(answer)
-    } else {
-        Err(Refusal::Unsound)
-    };
+    let answer = if sound { answer } else { Err(Refusal::Unsound) };
     Step {
         window: w,
         answer: Outcome {

@@ -39,7 +39,7 @@ pub fn release_retired(
                 w, sequences, values, pages, blocks, returned, 0, limit,
             );
             let window = visited.window;
-            let answer = Answer::Released(visited.count as u32, visited.units as u32);
+            let answer = Ok(Answer::Released(visited.count as u32, visited.units as u32));
             finish(window, answer, visited.count, visited.sound)
         }
         Err(why) => refuse(w, why),

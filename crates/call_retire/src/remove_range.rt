@@ -82,7 +82,7 @@ fn remove_positions(
     let at = retired.count;
     let removed = w.len.wrapping_sub(left.len);
     if left.retired_held == 0 {
-        return finish(left, Answer::Found(removed), at, retired.sound);
+        return finish(left, Ok(Answer::Found(removed)), at, retired.sound);
     }
     let visited = release_visit::release_retired(
         left,
@@ -96,7 +96,12 @@ fn remove_positions(
     );
     let window = visited.window;
     let sound = retired.sound & visited.sound;
-    finish(window, Answer::Found(removed), at + visited.count, sound)
+    finish(
+        window,
+        Ok(Answer::Found(removed)),
+        at + visited.count,
+        sound,
+    )
 }
 
 // The point after `count` positions from first's were emptied in a window of this size.

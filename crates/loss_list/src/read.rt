@@ -23,9 +23,9 @@ pub enum Phase {
 // has the word there.
 #[derive(Clone, Copy)]
 pub struct Turn {
-    gap: u32,
-    lost: u32,
-    phase: Phase,
+    pub gap: u32,
+    pub lost: u32,
+    pub phase: Phase,
 }
 
 impl Turn {

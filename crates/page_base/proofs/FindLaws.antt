@@ -4,6 +4,7 @@ use Rattle.std.specs.Prelude.{Option, None, Some, IfSome, unwrap_or}
 use mathlib.Core.Bool.{true, false, true≢false}
 use mathlib.Core.List.{List}
 use Prim.Native.Nat.{ℕ, ◌%◌, ◌≤◌, ◌<◌}
+use native.Mathlib.Nat.{le_refl}
 use native.Mathlib.Omega.{arith}
 use lib.ListN.{get_or}
 use borrow.Author.Tests.{eq-eqb, ne_eqb, eqb-true, eqb-false, lt-ltb}
@@ -67,17 +68,24 @@ module _ (n : ℕ) (w : PageWords) (ss vs : List ℕ) (ok : Placed n (page w ss 
   dense-free k t = free-cell (omega (arith, bit-lt w.occupied j, ap (λ (x : ℕ). bit_at x j) (ok.dense_filled k), eqb-false _ _ t))
 
   -- what the search of the first n cells finds
-  pub sparse-slot : (w.kind ≡ 2 → ⊥) → n < 64 → (r : Option ℕ) → IfSome r (λ c. c < n)
-      → unwrap_or r n ≡ first_from_of (is_at ss w.filled j) n 0 → unwrap_or r 64 ≡ cell_of (page w ss vs) j
+  pub sparse-slot : n < 64 → (c : ℕ) → c ≡ first_from_of (is_at ss w.filled j) n 0 → c < n → c ≡ cell_of (page w ss vs) j
   unfolding is_at
-  sparse-slot k m (Some c) h e =
+  sparse-slot m c e h =
       let f = first-is (is_at ss w.filled j) n 0 in
       let t = both _ _ (ap (is_at ss w.filled j) e ∙ f.held (omega arith)) in
       sym (cell_at n here ok c j (omega arith) (eqb-true _ _ t.0) (eqb-true _ _ t.1))
-  sparse-slot k m None h e =
+
+  pub sparse-none : (w.kind ≡ 2 → ⊥) → (c : ℕ) → c ≡ first_from_of (is_at ss w.filled j) n 0 → n ≤ c → 64 ≡ cell_of (page w ss vs) j
+  unfolding is_at
+  sparse-none k c e h =
       let f = first-is (is_at ss w.filled j) n 0 in
       sym (cell-none here j (λ d m u q.
       true≢false (sym (rw (eq-eqb _ _ u, eq-eqb _ _ q) refl) ∙ f.none d (omega arith) (omega (arith, few-cells n here ok k d m u)))))
+
+  pub sparse-found : (w.kind ≡ 2 → ⊥) → n < 64 → (r : Option ℕ) → IfSome r (λ c. c < n)
+      → unwrap_or r n ≡ first_from_of (is_at ss w.filled j) n 0 → unwrap_or r 64 ≡ cell_of (page w ss vs) j
+  sparse-found k m (Some c) h e = sparse-slot m c e h
+  sparse-found k m None h e = sparse-none k n e (le_refl n)
 
 -- ---- the cell that holds a sequence
 

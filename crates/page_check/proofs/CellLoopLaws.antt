@@ -17,7 +17,7 @@ use Rattle.page_base.specs.declared.PageWords.{PageWords}
 use Rattle.page_base.specs.Page.{cells}
 use Rattle.page_base.proofs.PartLaws.{cell_in}
 use Rattle.page_check.specs.Promises.{Decides, SoundCell, SoundCells}
-use Rattle.page_check.proofs.DecideLaws.{decides-same, decides_eq}
+use Rattle.page_check.proofs.DecideLaws.{decides-no, decides-same, decides_eq}
 
 -- cell c, which holds sequence s, is one of the rest
 pub record Next (f : ℕ → ℕ) (rest c s : ℕ) : Type 0 where
@@ -169,3 +169,10 @@ module _ (n cap g : ℕ) (w : PageWords) (f : ℕ → ℕ) where
       pub passed-ends : w.occupied < 2 ^ 64 → Decides (SoundCells n cap g w f) (eqb named w.occupied)
       passed-ends l = decides-same (eqb named w.occupied) (decides_eq named w.occupied) whole
           (λ ok. ext-bits 64 named w.occupied t.named-fits l (same ok))
+
+-- the position of the next cell was named already: the page is not sound
+pub not_once : (n cap g : ℕ) (w : PageWords) (ss : List ℕ) (rest named c : ℕ) → Passed n cap g w (cells ss) rest named
+    → (rest ≡ 0 → ⊥) → c ≡ lowest rest 0 → is_set named (get_or ss c 0 % 64) ≡ true → Decides (SoundCells n cap g w (cells ss)) false
+not_once n cap g w ss rest named c t more e b = decides-no (named-twice n cap g w (cells ss) rest named t c _ (next_of ss rest c t.fits more e) b)
+
+pub ruleset naming = (not_once)

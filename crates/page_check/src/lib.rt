@@ -29,6 +29,7 @@ fn cell_sound(kind: u64, n: usize, window_size: u32, page: usize, c: usize, sequ
 }
 
 // Whether every cell in use is sound, and `occupied` names just their positions, each once.
+#[tactic(auto, using(crate::proofs::CellLoopLaws::naming))]
 fn cells_sound(sequences: &[u32], words: PageWords, n: usize, window_size: u32, page: usize) -> bool
     requires { (length sequences.now ≡ 64) × (1 ≤ words.kind) × (words.kind ≤ 2) × (window_size ≤ 65536) }
     ensures { Decides (SoundCells n (capacity window_size) page words (cells sequences.now)) result }

@@ -34,12 +34,15 @@ fn run_length(selected: u64, from: usize, most: usize) -> usize
     n.min(most)
 }
 
-// The values of `n` cells in a row from `from` on, into `returned` from `at` on.
+// The values of `n` cells in a row from `from` on, into `returned` from `at` on. Not by copy_from_slice, which calls memmove here: of the
+// C library the archive needs memcpy and memset alone.
 fn copy_values(values: &[u32], returned: &mut [u32], from: usize, at: usize, n: usize)
     requires { (from + n ≤ length values.now) × (at + n ≤ length returned.old) }
     ensures { returned.new ≡ paste returned.old at (drop from values.now) n }
 {
-    returned[at..at + n].copy_from_slice(&values[from..from + n]);
+    for i in 0..n {
+        returned[at + i] = values[from + i];
+    }
 }
 
 // The drain of a dense page, whose cells are its positions: nothing is searched for, the values of positions in a row are copied

@@ -42,6 +42,8 @@ fn main(rt: HostRuntime) {
         if run.ended {
             break;
         }
+        // no turn follows the end of the input, or a write that failed
+        prove!(!run.ended);
         run = turn(
             rt,
             run,

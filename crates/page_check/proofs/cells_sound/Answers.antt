@@ -1,6 +1,6 @@
-use Rattle.std.proofs.Common.{sym, arith}
+use Rattle.std.proofs.Common.{arith, rules}
 use Rattle.page_check.proofs.DecideLaws.{decides-no}
-use Rattle.page_check.proofs.CellLoopLaws.{next_of, rest-less, passed-begins, not_sound, named-twice, passed-turn, passed-ends}
+use Rattle.page_check.proofs.CellLoopLaws.{next_of, rest-less, passed-begins, not_sound, passed-turn, passed-ends}
 use Rattle.page_check.proofs.cells_sound.Goals as goal
 
 pub loop-rest-init : goal.loop-rest-init
@@ -21,11 +21,6 @@ returns-then-not-cell_sound c =
     let at = next_of c.args.sequences.now _ _ c.loop-rest.invariant.fits c.loop-rest-test.true c.lowest-c.ensures in
     decides-no (not_sound _ _ _ _ _ _ _ c.loop-rest.invariant _ _ at (c.cell_sound.ensures.fails c.if-not-cell_sound.true))
 
-pub returns-then-bit : goal.returns-then-bit
-returns-then-bit c =
-    let at = next_of c.args.sequences.now _ _ c.loop-rest.invariant.fits c.loop-rest-test.true c.lowest-c.ensures in
-    decides-no (named-twice _ _ _ _ _ _ _ c.loop-rest.invariant _ _ at (sym c.if-bit.ensures))
-
 pub clear-rest-requires : goal.clear-rest-requires
 clear-rest-requires c =
     let at = next_of c.args.sequences.now _ _ c.loop-rest.invariant.fits c.loop-rest-test.true c.lowest-c.ensures in
@@ -40,7 +35,7 @@ pub loop-rest-preserved : goal.loop-rest-preserved
 loop-rest-preserved c =
     let at = next_of c.args.sequences.now _ _ c.loop-rest.invariant.fits c.loop-rest-test.true c.lowest-c.ensures in
     rw (c.clear-rest.ensures, c.set-named.ensures)
-    (passed-turn _ _ _ _ _ _ _ c.loop-rest.invariant _ _ at (c.cell_sound.ensures.holds c.if-not-cell_sound.false) (sym c.if-bit.ensures))
+    (passed-turn _ _ _ _ _ _ _ c.loop-rest.invariant _ _ at (c.cell_sound.ensures.holds c.if-not-cell_sound.false) (search rules))
 
 pub returns : goal.returns
 returns c = passed-ends _ _ _ _ _ _ _ c.loop-rest.invariant c.loop-rest-test.false (omega arith)

@@ -1,4 +1,4 @@
-use Rattle.std.proofs.Common.{◌≡◌, sym, ap, ◌∙◌, ◌/◌, ◌≤◌, ◌<◌, true, length, arith, rules}
+use Rattle.std.proofs.Common.{◌≡◌, refl, sym, ap, ◌∙◌, ◌/◌, ◌≤◌, ◌<◌, true, length, arith, rules}
 use lib.Bits.{and_le_l}
 use Rattle.words.proofs.LowestLaws.{lowest-some}
 use Rattle.window.specs.Memory.{page_count_of}
@@ -72,6 +72,7 @@ pub returns-in_default : goal.returns-in_default
 returns-in_default c =
     let s = c.args in
     record {
+      unsound = tt;
       gives = λ vs ok. walk-nothing s.w s.sequences.now vs s.pages.now s.blocks.now s.start s.end ok (omega arith) (omega arith) _ (omega arith)
           (passed_to _ _ _ _ _ _ c.loop-page.invariant.1 c.loop-page.invariant.0 c.in_default.ensures.first);
     }
@@ -81,6 +82,7 @@ returns-then-words-eq-NONE c =
     let s = c.args in
     let here = (goal.at.returns-then-words-eq-NONE c).In-Some in
     record {
+      unsound = refl;
       gives = λ vs ok.
           let held = live-page s.w s.sequences.now vs s.pages.now s.blocks.now s.start s.end ok (omega arith) _ (page-lt here) (selected here) in
           absurd (held.0 (ap (λ (x : PageWords). x.kind) (sym c.page_words-words.ensures) ∙ c.if-words-eq-NONE.true));
@@ -92,6 +94,7 @@ returns-in_default-slot_at c =
     let here = (goal.at.returns-in_default-slot_at c).In-Some in
     let e = word-is _ _ _ _ _ _ c.page_words-words.ensures c.bits_within.ensures in
     record {
+      unsound = refl;
       gives = λ vs ok.
           absurd (walk-cell s.w s.sequences.now vs s.pages.now s.blocks.now s.start s.end ok (omega arith) _ (page-lt here) (selected here) (up_to here)
           (λ z. c.if-occupied-ne0.true (e ∙ z)) _ _ _ _ _ c.page_words-words.ensures c.page_cells-cells.ensures c.bits_within.ensures c.lowest.ensures c.slot_at.ensures
@@ -104,6 +107,7 @@ returns-in-Some-slot_at c =
     let here = (goal.at.returns-in-Some-slot_at c).In-Some in
     let e = word-is _ _ _ _ _ _ c.page_words-words.ensures c.bits_within.ensures in
     record {
+      unsound = tt;
       gives = λ vs ok.
           walk-answer s.w s.sequences.now vs s.pages.now s.blocks.now s.start s.end ok (omega arith) _ (page-lt here) (selected here) (up_to here)
           (λ z. c.if-occupied-ne0.true (e ∙ z)) _ _ _ _ _ c.page_words-words.ensures c.page_cells-cells.ensures c.bits_within.ensures c.lowest.ensures c.slot_at.ensures

@@ -4,10 +4,21 @@ use Rattle.std.specs.Prelude.{unwrap_or, is_some}
 use Rattle.block_search.specs.declared.Select.TheVariants.{Live}
 use Rattle.block_search.specs.Search.{selected_pages_of}
 use Rattle.call_read.specs.declared.cells.Entered.{Entered}
-use Rattle.call_read.specs.Promises.{cell_in_block_of, FindsCell}
-use Rattle.call_read.proofs.CellLaws.{block-ends}
+use Rattle.call_read.specs.Promises.{entered_at, cell_in_block_of, FindsCell}
+use Rattle.call_read.proofs.CellLaws.{none-begins, block-ends}
 use Rattle.call_read.proofs.cells.walk_blocks.Goals as goal
 use Rattle.call_read.proofs.cells.walk_blocks.Goals.{After-cell_in_block-cell}
+
+-- by hand, so that a walk in another unit is refused here, where it begins outside the blocks, and not by the words of what follows
+pub walk-init : goal.walk-init
+walk-init c =
+    let b : c.args.start / 4096 ≡ c.args.start / 64 / 64 = omega arith in
+    let none : 0 ≡ c.args.start / 64 / 64 - c.args.start / 4096 = omega arith in (
+      omega arith,
+      omega (arith, c.requires.window_size_bound.1),
+      c.requires.own_value ∙ (λ i. entered_at c.args.blocks.now c.args.w.retired_blocks (b i) (none i)),
+      none-begins c.args.w _ _ _ _ c.requires.window_size_bound.1 c.requires.window_size_bound.2 _ (omega arith),
+    )
 
 reads-are : (c : After-cell_in_block-cell) → c.walk.entered.reads ≡ c.walk.block - c.args.start / 4096 + 1
 reads-are c = ap (λ (x : Entered). x.reads) c.walk.invariant.2

@@ -1,4 +1,4 @@
-use Rattle.std.proofs.Common.{◌≡◌, ℕ, ◌+◌, ◌-◌, ◌%◌, ◌^◌, Bool, sym, ◌∙◌, subst, ap₂, arith}
+use Rattle.std.proofs.Common.{◌≡◌, ℕ, ◌+◌, ◌-◌, ◌%◌, ◌^◌, Bool, Ok, sym, ◌∙◌, subst, ap₂, arith}
 use mathlib.Core.Bool.{and-true}
 use Rattle.window.specs.declared.answers.Step.{Step}
 use Rattle.window.specs.declared.answers.Answer.TheVariants.{Found}
@@ -25,7 +25,7 @@ returns-then-left-eq0 c =
     let none = none-visits t.result.window m.sequences m.values m.pages m.blocks m.returned t.result.count 256 c.if-left-eq0.true in
     subst (λ (y : Step). Fills (λ (v : Window). range_step v s.start s.count) (state_of s.w (memory s.sequences.now s.values.now s.pages.now s.blocks.now)) s.returned.now
     (left_of y (memory m.sequences m.values m.pages m.blocks) m.returned))
-    (ap₂ (λ (x : ℕ) (b : Bool). finished t.result.window (Found removed) x b) n (and-true t.result.sound) ∙ sym c.finish.ensures)
+    (ap₂ (λ (x : ℕ) (b : Bool). finished t.result.window (Ok (Found removed)) x b) n (and-true t.result.sound) ∙ sym c.finish.ensures)
     (range-fills s.w s.sequences.now s.values.now s.pages.now s.blocks.now s.returned.now s.start s.count start.0 start.1 start.2
     t.result _ _ _ _ _ t.ensures (none_visited t.result.window) _ _ _ none removed (omega arith) (omega arith))
 

@@ -1,6 +1,6 @@
 use Rattle.std.proofs.Common.{sym, arith}
 use Rattle.std.proofs.lemmas.Option.{IfSome_then}
-use Rattle.page_base.proofs.FindLaws.{dense-slot, dense-free, free-slot, sparse-slot}
+use Rattle.page_base.proofs.FindLaws.{dense-slot, dense-free, free-slot, sparse-found}
 use Rattle.page_base.proofs.find.slot_at.Goals as goal
 
 pub returns-then-bit : goal.returns-then-bit
@@ -23,5 +23,5 @@ returns c =
     let found = c.sparse_slot_at.ensures in
     record {
       bounded = IfSome_then c.sparse_slot_at.result found.within (λ x l. omega arith);
-      cell = λ vs ok. sparse-slot _ _ _ vs ok _ (omega arith) c.if-w-eq-DENSE.false (omega arith) _ found.within found.first;
+      cell = λ vs ok. sparse-found _ _ _ vs ok _ (omega arith) c.if-w-eq-DENSE.false (omega arith) _ found.within found.first;
     }
